@@ -5,18 +5,31 @@ use native.Mathlib.Omega.{arith}
 use lib.ListN.{take, drop}
 use lib.Seq.{getD-drop}
 use Rattle.base.specs.Bytes.{Bytes, bytesOf}
+use Rattle.base.proofs.Elements.{nil-each, cons-each, tail-each, append-each, behind-each}
+
+abbrev Byte : ℕ → Type 0
+Byte n = n < 256
 
 pub bytes-nil : Bytes []
-bytes-nil i = omega arith
+bytes-nil = nil-each Byte (omega arith)
 
 pub bytes-cons : (x : ℕ) (xs : List ℕ) → x < 256 → Bytes xs → Bytes (x ∷ xs)
-bytes-cons x xs h hs zero = h
-bytes-cons x xs h hs (suc i) = hs i
+bytes-cons = cons-each Byte
+
+pub bytes-single : (x : ℕ) → x < 256 → Bytes (x ∷ [])
+bytes-single x h = bytes-cons x [] h bytes-nil
+
+pub bytes-pair : (x y : ℕ) → x < 256 → y < 256 → Bytes (x ∷ y ∷ [])
+bytes-pair x y h k = bytes-cons x (y ∷ []) h (bytes-single y k)
+
+pub bytes-tail : (x : ℕ) (xs : List ℕ) → Bytes (x ∷ xs) → Bytes xs
+bytes-tail = tail-each Byte
 
 pub bytes-append : (x y : List ℕ) → Bytes x → Bytes y → Bytes (x ++ y)
-bytes-append [] y hx hy i = hy i
-bytes-append (a ∷ x) y hx hy zero = hx 0
-bytes-append (a ∷ x) y hx hy (suc i) = bytes-append x y (λ j. hx (suc j)) hy i
+bytes-append = append-each Byte
+
+pub bytes-behind : (x y : List ℕ) → Bytes (x ++ y) → Bytes y
+bytes-behind = behind-each Byte
 
 pub bytes-take : (n : ℕ) (x : List ℕ) → Bytes x → Bytes (take n x)
 bytes-take zero x h i = bytes-nil i
@@ -32,4 +45,4 @@ pub bytes-bytesOf : (w n : ℕ) → Bytes (bytesOf w n)
 unfolding bytesOf
 bytes-bytesOf zero n = bytes-nil
 bytes-bytesOf (suc w) n =
-    bytes-append (bytesOf w (n / 256)) (n % 256 ∷ []) (bytes-bytesOf w (n / 256)) (bytes-cons (n % 256) [] (omega arith) bytes-nil)
+    bytes-append (bytesOf w (n / 256)) (n % 256 ∷ []) (bytes-bytesOf w (n / 256)) (bytes-single (n % 256) (omega arith))

@@ -1,7 +1,14 @@
 pub mod BitList
 pub mod Bytes
+pub mod Choosing
+pub mod Elements
+pub mod Interval
+pub mod ListEnds
 pub mod Numbers
 pub mod Ones
+pub mod Part
+pub mod Ranges
 pub mod Sets
+pub mod Stored
 pub mod Stores
 pub mod Xor

@@ -1,11 +1,11 @@
 -- Runs of stores, one behind the other, and what they leave. Assumes nothing.
-use mathlib.Core.Path.{_≡_, refl, sym, ap, _∙_}
+use mathlib.Core.Path.{_≡_, sym, ap, _∙_}
 use mathlib.Core.List.{List, [], _∷_, _++_}
 use Prim.Native.Nat.{ℕ, suc, _+_, _≤_}
 use native.Mathlib.Omega.{arith}
 use native.Mathlib.Nat.{add-zero, add-suc, suc-add, zero-add}
-use lib.ListN.{length, take, drop, set}
-use lib.Seq.{sets, sets-eq, take-at}
+use lib.ListN.{length, drop, set}
+use lib.Seq.{sets, sets-eq}
 
 -- a run in two parts
 pub sets-append : (l : List ℕ) (i : ℕ) (xs ys : List ℕ) → sets l i (xs ++ ys) ≡ sets (sets l i xs) (i + length xs) ys
@@ -17,6 +17,3 @@ sets-append l i (x ∷ xs) ys =
 -- a run from the start on: what was written, and the rest as it was
 pub sets-front : (l vs : List ℕ) → length vs ≤ length l → sets l 0 vs ≡ vs ++ drop (length vs) l
 sets-front l vs h = sets-eq vs l 0 (omega arith) ∙ ap (λ (n : ℕ). vs ++ drop n l) (zero-add (length vs))
-
-pub take-stored : (l vs : List ℕ) → length vs ≤ length l → take (length vs) (sets l 0 vs) ≡ vs
-take-stored l vs h = ap (take (length vs)) (sets-front l vs h) ∙ take-at vs (drop (length vs) l) (length vs) refl

@@ -1,0 +1,6 @@
+pub mod StuffingLaws
+pub mod BodyLaws
+pub mod LayingLaws
+pub mod StuffingBothWays
+pub mod LineBytes
+pub mod BodyBothWays

@@ -1,0 +1,55 @@
+-- The body between two flags, as it is read: numbers 1 to 5. Assumes nothing.
+use mathlib.Core.Bool.{Bool, _||_}
+use mathlib.Core.List.{List, _∷_}
+use Prim.Native.Nat.{ℕ, _+_, _-_, _*_}
+use lib.Dec.{eqb, ltb}
+use lib.ListN.{length, replicate, take, drop, getD}
+use Rattle.base.specs.Choice.{choose, within}
+use Rattle.crc.specs.Crc.{crcOf}
+use Rattle.crc.specs.declared.Poly.the-variants.{Fcs}
+use Rattle.wire.specs.Stuffing.{unstuff, plainOf}
+use Rattle.wire.specs.declared.stuffing.Unstuffed.{Unstuffed}
+use Rattle.wire.specs.declared.body.Verdict.{Verdict}
+use Rattle.wire.specs.declared.body.Verdict.the-variants.{Taken, Length, Stuffing, Size, Check, Reserved}
+use Rattle.wire.specs.declared.body.Body.{Body}
+
+-- document 01's number of a verdict
+abbrev pub verdictNumber : Verdict → ℕ
+verdictNumber Taken = 0
+verdictNumber Length = 1
+verdictNumber Stuffing = 2
+verdictNumber Size = 3
+verdictNumber Check = 4
+verdictNumber Reserved = 5
+
+-- 00h, 7Dh, 7Eh, 91h to EFh and F9h to FEh are reserved
+unfoldable pub reservedAddr : ℕ → Bool
+reservedAddr a = eqb a 0x00 || eqb a 0x7D || eqb a 0x7E || within 0x91 0xEF a || within 0xF9 0xFE a
+
+-- the FCS covers address and unstuffed data
+unfoldable pub fcsOf : ℕ → List ℕ → ℕ
+fcsOf a xs = crcOf Fcs (a ∷ xs)
+
+-- a refused body holds nothing
+abbrev pub refusedBody : Verdict → Body
+refusedBody v = record { verdict = v; addr = 0; bytes = replicate 272 0; len = 0 }
+
+-- 4, then 5, of an address and len unstuffed bytes, the last two of them the FCS, high byte first
+unfoldable pub checkedBody : ℕ → List ℕ → ℕ → Body
+checkedBody a xs len =
+    choose (eqb (fcsOf a (take (len - 2) xs)) (getD xs (len - 2) 0 * 256 + getD xs (len - 2 + 1) 0))
+    (choose (reservedAddr a) (refusedBody Reserved) (record { verdict = Taken; addr = a; bytes = xs; len = len - 2 }))
+    (refusedBody Check)
+
+-- 2, then 3: 7 to 272 bytes, the address and the FCS among them
+unfoldable pub unstuffedBody : ℕ → Unstuffed → Body
+unstuffedBody a u =
+    choose (u .right)
+    (choose (ltb (u .len) 6) (refusedBody Size) (choose (ltb 271 (u .len)) (refusedBody Size) (checkedBody a (u .bytes) (u .len))))
+    (refusedBody Stuffing)
+
+-- 1: 7 to 543 bytes; the address is not stuffed
+unfoldable pub readBody : List ℕ → Body
+readBody s =
+    choose (ltb (length s) 7) (refusedBody Length)
+    (choose (ltb 543 (length s)) (refusedBody Length) (unstuffedBody (getD s 0 0) (plainOf (unstuff (drop 1 s)))))

@@ -1,0 +1,48 @@
+-- What stands on the line for an address and application data, and what laying it down answers. Assumes nothing.
+use mathlib.Core.List.{List, [], _∷_, _++_}
+use Prim.Native.Nat.{ℕ, _/_, _%_}
+use lib.Dec.{ltb}
+use lib.ListN.{length, drop}
+use Rattle.base.specs.Choice.{choose}
+use Rattle.wire.specs.Stuffing.{stuff}
+use Rattle.wire.specs.Body.{reservedAddr, fcsOf}
+use Rattle.wire.specs.declared.laying.Laid.{Laid}
+use Rattle.wire.specs.declared.laying.Laid.the-variants.{Sent, Reserved, Form, Room}
+
+-- the body with a given check: data and check are stuffed, the address is not; high byte first
+unfoldable pub bodyWith : ℕ → ℕ → List ℕ → List ℕ
+bodyWith check a xs = a ∷ stuff (xs ++ (check / 256 ∷ check % 256 ∷ []))
+
+-- between its flags
+unfoldable pub lineWith : ℕ → ℕ → List ℕ → List ℕ
+lineWith check a xs = 0x7E ∷ bodyWith check a xs ++ (0x7E ∷ [])
+
+-- the body, and the line, that have the right FCS
+abbrev pub bodyOf : ℕ → List ℕ → List ℕ
+bodyOf a xs = bodyWith (fcsOf a xs) a xs
+
+abbrev pub lineOf : ℕ → List ℕ → List ℕ
+lineOf a xs = lineWith (fcsOf a xs) a xs
+
+-- the answer for a buffer of n bytes: 5, then 8 (4 to 269 bytes of application data), then 20
+unfoldable pub laidOf : ℕ → ℕ → List ℕ → Laid
+laidOf n a xs =
+    choose (reservedAddr a) Reserved
+    (choose (ltb (length xs) 4) Form
+    (choose (ltb 269 (length xs)) Form
+    (choose (ltb n (length (lineOf a xs))) Room
+    (Sent (length (lineOf a xs))))))
+
+-- what the buffer then holds: the line and the bytes past its closing flag, or what it held
+abbrev pub leftBy : Laid → List ℕ → List ℕ → List ℕ
+leftBy (Sent n) line buf = line ++ drop n buf
+leftBy Reserved line buf = buf
+leftBy Form line buf = buf
+leftBy Room line buf = buf
+
+-- document 01's number of an answer
+abbrev pub laidNumber : Laid → ℕ
+laidNumber (Sent n) = 0
+laidNumber Reserved = 5
+laidNumber Form = 8
+laidNumber Room = 20

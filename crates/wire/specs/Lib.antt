@@ -1,0 +1,3 @@
+pub mod Stuffing
+pub mod Body
+pub mod Laying

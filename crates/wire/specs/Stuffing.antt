@@ -1,0 +1,53 @@
+-- Stuffing, and what a stuffed part means. Assumes nothing.
+use mathlib.Core.Bool.{Bool, true, false}
+use mathlib.Core.List.{List, [], _∷_, _++_}
+use mathlib.Core.Option.{Option, none, some}
+use Prim.Native.Nat.{ℕ}
+use lib.Dec.{eqb}
+use lib.ListN.{length, replicate}
+use lib.Seq.{sets}
+use Rattle.base.specs.Choice.{choose}
+use Rattle.wire.specs.declared.stuffing.Meaning.{Meaning}
+use Rattle.wire.specs.declared.stuffing.Meaning.the-variants.{Plain, Escape, Wrong}
+use Rattle.wire.specs.declared.stuffing.Unstuffed.{Unstuffed}
+
+-- 7Eh is sent as 7Dh 5Eh, 7Dh as 7Dh 5Dh
+unfoldable pub stuffByte : ℕ → List ℕ
+stuffByte b = choose (eqb b 0x7E) (0x7D ∷ 0x5E ∷ []) (choose (eqb b 0x7D) (0x7D ∷ 0x5D ∷ []) (b ∷ []))
+
+unfoldable pub stuff : List ℕ → List ℕ
+stuff [] = []
+stuff (b ∷ bs) = stuffByte b ++ stuff bs
+
+-- what a received byte means: behind an escape, and not
+unfoldable pub meaningOf : Bool → ℕ → Meaning
+meaningOf true b = choose (eqb b 0x5E) (Plain 0x7E) (choose (eqb b 0x5D) (Plain 0x7D) Wrong)
+meaningOf false b = choose (eqb b 0x7E) Wrong (choose (eqb b 0x7D) Escape (Plain b))
+
+abbrev pub prepend : ℕ → Option (List ℕ) → Option (List ℕ)
+prepend x none = none
+prepend x (some ys) = some (x ∷ ys)
+
+-- a byte's meaning, before what the rest gives, which goes on escaped or not
+abbrev pub before : Meaning → (Bool → Option (List ℕ)) → Option (List ℕ)
+before (Plain b) rest = prepend b (rest false)
+before Escape rest = rest true
+before Wrong rest = none
+
+-- an escape needs a byte behind it
+abbrev pub atEnd : Bool → Option (List ℕ)
+atEnd true = none
+atEnd false = some []
+
+unfoldable pub unstuffFrom : List ℕ → Bool → Option (List ℕ)
+unstuffFrom [] escaped = atEnd escaped
+unstuffFrom (b ∷ bs) escaped = before (meaningOf escaped b) (λ e. unstuffFrom bs e)
+
+-- the bytes before stuffing; none where any 7Eh stands there, or a 7Dh not followed by 5Dh or 5Eh
+unfoldable pub unstuff : List ℕ → Option (List ℕ)
+unstuff s = unstuffFrom s false
+
+-- how the code holds that: the first 272 bytes, zeros behind them, and the count
+abbrev pub plainOf : Option (List ℕ) → Unstuffed
+plainOf none = record { right = false; bytes = replicate 272 0; len = 0 }
+plainOf (some xs) = record { right = true; bytes = sets (replicate 272 0) 0 xs; len = length xs }

@@ -1,0 +1,110 @@
+// The body between two flags: address, stuffed application data, stuffed FCS.
+ghost use mathlib.Core.Path.{_≡_};
+ghost use Prim.Native.Nat.{_≤_};
+ghost use Rattle.wire.specs.Body.{reservedAddr, fcsOf, refusedBody, checkedBody, unstuffedBody, readBody};
+use crate::stuffing;
+use crate::stuffing::Unstuffed;
+use crc::Poly;
+
+// What a body is answered: taken, or numbers 1 to 5.
+pub enum Verdict {
+    Taken,
+    Length,
+    Stuffing,
+    Size,
+    Check,
+    Reserved,
+}
+
+// A body that was read: its address, and its application data, the first `len` of `bytes`.
+pub struct Body {
+    pub verdict: Verdict,
+    pub addr: u8,
+    pub bytes: [u8; 272],
+    pub len: usize,
+}
+
+fn refused(verdict: Verdict) -> Body
+    ensures { λ r. ⌜ r ≡ refusedBody verdict ⌝ }
+{
+    Body {
+        verdict,
+        addr: 0,
+        bytes: [0; 272],
+        len: 0,
+    }
+}
+
+// The addresses that no station has.
+pub fn reserved(addr: u8) -> bool
+    ensures { λ r. ⌜ r ≡ reservedAddr addr ⌝ }
+{
+    match addr {
+        0x00 | 0x7D | 0x7E => true,
+        0x91..=0xEF => true,
+        0xF9..=0xFE => true,
+        _ => false,
+    }
+}
+
+// The FCS of an address and unstuffed data.
+pub fn fcs(addr: u8, data: &[u8]) -> u16
+    ensures { λ r. ⌜ r ≡ fcsOf addr (now («data» .entry)) ⌝ }
+{
+    crc::crc_from(Poly::Fcs, crc::crc_of(Poly::Fcs, &[addr]), data)
+}
+
+// 4 and 5: the FCS stands behind the data it covers, high byte first.
+fn checked(addr: u8, bytes: [u8; 272], len: usize) -> Body
+    requires { ⌜ (6 ≤ len) × (len ≤ 271) ⌝ }
+    ensures { λ r. ⌜ r ≡ checkedBody addr bytes len ⌝ }
+{
+    let n = len - 2;
+    let high = bytes[n] as u16;
+    let low = bytes[n + 1] as u16;
+    if fcs(addr, &bytes[..n]) != high * 256 + low {
+        return refused(Verdict::Check);
+    }
+    if reserved(addr) {
+        return refused(Verdict::Reserved);
+    }
+    Body {
+        verdict: Verdict::Taken,
+        addr,
+        bytes,
+        len: n,
+    }
+}
+
+// 2 and 3: the length counts address and FCS.
+fn unstuffed_body(addr: u8, u: Unstuffed) -> Body
+    ensures { λ r. ⌜ r ≡ unstuffedBody addr u ⌝ }
+{
+    let right = u.right;
+    let len = u.len;
+    let bytes = u.bytes;
+    if !right {
+        return refused(Verdict::Stuffing);
+    }
+    if len < 6 {
+        return refused(Verdict::Size);
+    }
+    if 271 < len {
+        return refused(Verdict::Size);
+    }
+    checked(addr, bytes, len)
+}
+
+// A body as it came from the line.
+pub fn read_body(body: &[u8]) -> Body
+    ensures { λ r. ⌜ r ≡ readBody (now (body .entry)) ⌝ }
+{
+    if body.len() < 7 {
+        return refused(Verdict::Length);
+    }
+    if 543 < body.len() {
+        return refused(Verdict::Length);
+    }
+    let addr = body[0];
+    unstuffed_body(addr, stuffing::unstuff_all(&body[1..]))
+}

@@ -1,0 +1,69 @@
+// A frame laid into a lent buffer: flag, address, stuffed data, stuffed FCS, flag.
+ghost use mathlib.Core.Path.{_≡_};
+ghost use mathlib.Core.List.{_++_};
+ghost use Prim.Native.Nat.{_≤_};
+ghost use lib.ListN.{length, drop};
+ghost use lib.Seq.{sets};
+ghost use Rattle.wire.specs.Laying.{bodyWith, lineWith, lineOf, laidOf, leftBy};
+use crate::body;
+use crate::stuffing;
+use crate::stuffing::FLAG;
+
+// The body with a given FCS, from the buffer's first byte on; its length.
+fn lay_body(dst: &mut [u8], addr: u8, data: &[u8], check: u16) -> usize
+    requires { ⌜ length (bodyWith check addr (now «data»)) ≤ length (now dst) ⌝ }
+    ensures { λ r. ⌜ (r ≡ length (bodyWith check addr (now («data» .entry)))) × (now (dst .exit) ≡ sets (now (dst .entry)) 0 (bodyWith check addr (now («data» .entry)))) ⌝ }
+{
+    let sent = [(check >> 8) as u8, (check % 256) as u8];
+    dst[0] = addr;
+    let n = stuffing::stuff_at(data, dst, 1);
+    stuffing::stuff_at(&sent, dst, n)
+}
+
+// The same between its flags. The bytes behind the closing flag stay.
+fn lay_line(buf: &mut [u8], addr: u8, data: &[u8], check: u16) -> usize
+    requires { ⌜ length (lineWith check addr (now «data»)) ≤ length (now buf) ⌝ }
+    ensures { λ r. ⌜ (r ≡ length (lineWith check addr (now («data» .entry)))) × (now (buf .exit) ≡ lineWith check addr (now («data» .entry)) ++ drop (length (lineWith check addr (now («data» .entry)))) (now (buf .entry))) ⌝ }
+{
+    buf[0] = FLAG;
+    let n = lay_body(&mut buf[1..], addr, data, check);
+    buf[n + 1] = FLAG;
+    n + 2
+}
+
+// How long that is.
+fn line_len(addr: u8, data: &[u8], check: u16) -> usize
+    requires { ⌜ length (now «data») ≤ 269 ⌝ }
+    ensures { λ r. ⌜ r ≡ length (lineWith check addr (now («data» .entry))) ⌝ }
+{
+    let sent = [(check >> 8) as u8, (check % 256) as u8];
+    3 + stuffing::stuffed_len(data) + stuffing::stuffed_len(&sent)
+}
+
+// What came of laying down: the length on the line, or numbers 5, 8 and 20.
+pub enum Laid {
+    Sent(usize),
+    Reserved,
+    Form,
+    Room,
+}
+
+// Application data laid down for an address, or refused with the buffer untouched.
+pub fn lay(buf: &mut [u8], addr: u8, data: &[u8]) -> Laid
+    ensures { λ r. ⌜ (r ≡ laidOf (length (now (buf .entry))) addr (now («data» .entry))) × (now (buf .exit) ≡ leftBy r (lineOf addr (now («data» .entry))) (now (buf .entry))) ⌝ }
+{
+    if body::reserved(addr) {
+        return Laid::Reserved;
+    }
+    if data.len() < 4 {
+        return Laid::Form;
+    }
+    if 269 < data.len() {
+        return Laid::Form;
+    }
+    let check = body::fcs(addr, data);
+    if buf.len() < line_len(addr, data, check) {
+        return Laid::Room;
+    }
+    Laid::Sent(lay_line(buf, addr, data, check))
+}

@@ -1,0 +1,157 @@
+// Stuffing: 7Eh is sent as 7Dh 5Eh, 7Dh as 7Dh 5Dh.
+ghost use mathlib.Core.Path.{_≡_};
+ghost use mathlib.Core.Option.{none};
+ghost use Prim.Native.Nat.{_+_, _≤_};
+ghost use lib.ListN.{length};
+ghost use lib.Seq.{sets};
+ghost use Rattle.wire.specs.Stuffing.{stuffByte, stuff, meaningOf, unstuff, plainOf};
+
+pub const FLAG: u8 = 0x7E;
+
+pub const ESCAPE: u8 = 0x7D;
+
+// What stands for a flag and for an escape, behind an escape.
+pub const FLAG_SENT: u8 = 0x5E;
+
+pub const ESCAPE_SENT: u8 = 0x5D;
+
+// One byte, stuffed, at a place of the buffer; the next place.
+fn put(dst: &mut [u8], at: usize, b: u8) -> usize
+    requires { ⌜ at + length (stuffByte b) ≤ length (now dst) ⌝ }
+    ensures { λ r. ⌜ (r ≡ at + length (stuffByte b)) × (now (dst .exit) ≡ sets (now (dst .entry)) at (stuffByte b)) ⌝ }
+{
+    if b == FLAG {
+        dst[at] = ESCAPE;
+        dst[at + 1] = FLAG_SENT;
+        return at + 2;
+    }
+    if b == ESCAPE {
+        dst[at] = ESCAPE;
+        dst[at + 1] = ESCAPE_SENT;
+        return at + 2;
+    }
+    dst[at] = b;
+    at + 1
+}
+
+// The source, stuffed, from a place of the buffer on; the next place.
+pub fn stuff_at(src: &[u8], dst: &mut [u8], from: usize) -> usize
+    requires { ⌜ from + length (stuff (now src)) ≤ length (now dst) ⌝ }
+    ensures { λ r. ⌜ (r ≡ from + length (stuff (now (src .entry)))) × (now (dst .exit) ≡ sets (now (dst .entry)) from (stuff (now (src .entry)))) ⌝ }
+{
+    let mut at = from;
+    let mut i: usize = 0;
+    while i < src.len() {
+        at = put(dst, at, src[i]);
+        i += 1;
+    }
+    at
+}
+
+// How many bytes a byte takes when it is stuffed, and a slice.
+fn width(b: u8) -> usize
+    ensures { λ r. ⌜ r ≡ length (stuffByte b) ⌝ }
+{
+    if b == FLAG {
+        return 2;
+    }
+    if b == ESCAPE {
+        return 2;
+    }
+    1
+}
+
+pub fn stuffed_len(src: &[u8]) -> usize
+    requires { ⌜ length (now src) ≤ 65535 ⌝ }
+    ensures { λ r. ⌜ r ≡ length (stuff (now (src .entry))) ⌝ }
+{
+    let mut n: usize = 0;
+    let mut i: usize = 0;
+    while i < src.len() {
+        n += width(src[i]);
+        i += 1;
+    }
+    n
+}
+
+// What a received byte means, behind an escape or not.
+pub enum Meaning {
+    Plain(u8),
+    Escape,
+    Wrong,
+}
+
+fn meaning_of(escaped: bool, b: u8) -> Meaning
+    ensures { λ r. ⌜ r ≡ meaningOf escaped b ⌝ }
+{
+    if escaped {
+        if b == FLAG_SENT {
+            return Meaning::Plain(FLAG);
+        }
+        if b == ESCAPE_SENT {
+            return Meaning::Plain(ESCAPE);
+        }
+        return Meaning::Wrong;
+    }
+    if b == FLAG {
+        return Meaning::Wrong;
+    }
+    if b == ESCAPE {
+        return Meaning::Escape;
+    }
+    Meaning::Plain(b)
+}
+
+// The received bytes as they were before stuffing: the first 272 of them, and how many there are.
+pub struct Unstuffed {
+    pub right: bool,
+    pub bytes: [u8; 272],
+    pub len: usize,
+}
+
+// None, since a byte stands wrong.
+fn wrong() -> Unstuffed
+    ensures { λ r. ⌜ r ≡ plainOf none ⌝ }
+{
+    Unstuffed {
+        right: false,
+        bytes: [0; 272],
+        len: 0,
+    }
+}
+
+// The received bytes without their escapes.
+pub fn unstuff_all(s: &[u8]) -> Unstuffed
+    ensures { λ r. ⌜ r ≡ plainOf (unstuff (now (s .entry))) ⌝ }
+{
+    let mut bytes: [u8; 272] = [0; 272];
+    let mut len: usize = 0;
+    let mut escaped = false;
+    let mut i: usize = 0;
+    while i < s.len() {
+        match meaning_of(escaped, s[i]) {
+            Meaning::Plain(b) => {
+                if len < 272 {
+                    bytes[len] = b;
+                }
+                len += 1;
+                escaped = false;
+            }
+            Meaning::Escape => {
+                escaped = true;
+            }
+            Meaning::Wrong => {
+                return wrong();
+            }
+        }
+        i += 1;
+    }
+    if escaped {
+        return wrong();
+    }
+    Unstuffed {
+        right: true,
+        bytes,
+        len,
+    }
+}

@@ -1,0 +1,118 @@
+//! Self checks: stored vectors, published and proved values, and round trips of every kind.
+
+use crate::body;
+use crate::cases::KINDS;
+use crate::crc::{crc, FCS, SAFETY};
+use crate::frame;
+use crate::generate::random::Random;
+use crate::generate::sample;
+use crate::refusal::Refusal;
+use crate::stuffing;
+use crate::vectors;
+
+#[derive(Default)]
+pub struct Tally {
+    pub passed: usize,
+    pub failed: usize,
+}
+
+impl Tally {
+    fn check(&mut self, holds: bool, what: &str) {
+        if holds {
+            self.passed += 1;
+        } else {
+            self.failed += 1;
+            eprintln!("failed: {what}");
+        }
+    }
+}
+
+pub fn run() -> Tally {
+    let mut tally = Tally::default();
+    crc_vectors(&mut tally);
+    published(&mut tally);
+    stuffing_cases(&mut tally);
+    let random = &mut Random::new(7);
+    for kind in 0..KINDS {
+        for datl in [0, 1, 2, 7, 30, 253, 254] {
+            for _ in 0..4 {
+                round_trip(&mut tally, random, kind, datl);
+            }
+        }
+    }
+    tally
+}
+
+fn crc_vectors(tally: &mut Tally) {
+    let vectors = vectors::stored();
+    tally.check(vectors.len() >= 100, "the vectors file has its vectors");
+    for vector in vectors {
+        let polynomial = match vector.name {
+            "FCS" => FCS,
+            _ => SAFETY,
+        };
+        let what = format!("{} over {} bytes", vector.name, vector.bytes.len());
+        tally.check(crc(polynomial, &vector.bytes) == vector.crc, &what);
+    }
+}
+
+fn published(tally: &mut Tally) {
+    tally.check(
+        crc(FCS, b"123456789") == 0x29B1,
+        "P7, published check value",
+    );
+    let powers = [15, 12, 7, 6, 4, 3, 0];
+    let sum = powers.iter().fold(0, |sum, power| sum | 1 << power);
+    tally.check(SAFETY == sum, "safety polynomial by its powers");
+}
+
+fn stuffing_cases(tally: &mut Tally) {
+    let plain = [0x7E, 0x31, 0x7D];
+    let line = [0x7D, 0x5E, 0x31, 0x7D, 0x5D];
+    tally.check(stuffing::stuff(&plain) == line, "P4");
+    tally.check(
+        stuffing::unstuff(&line).as_deref() == Some(&plain),
+        "P4 back",
+    );
+    for length in [7, 8, 9, 100, 542, 543] {
+        let body = vec![0x11; length];
+        for place in [1, length / 2, length - 2] {
+            let mut broken = body.clone();
+            broken[place..place + 2].copy_from_slice(&[0x7D, 0x31]);
+            let what = format!("P5 at {place} of {length}");
+            tally.check(body::read(&broken) == Err(Refusal::Stuffing), &what);
+        }
+        let mut flag = body.clone();
+        flag[length / 2] = 0x7E;
+        let what = format!("a flag inside {length}");
+        tally.check(body::read(&flag) == Err(Refusal::Stuffing), &what);
+        let mut last = body;
+        last[length - 1] = 0x7D;
+        let what = format!("P6 in {length}");
+        tally.check(body::read(&last) == Err(Refusal::Stuffing), &what);
+    }
+}
+
+/// Written, then read between the flags: the same frame; behind the closing flag nothing changed;
+/// in a buffer one byte too small nothing at all.
+fn round_trip(tally: &mut Tally, random: &mut Random, kind: u8, datl: u8) {
+    const FILL: u8 = 0xA5;
+    let sample = sample::frame(random, kind, datl);
+    let what = format!("round trip of kind {kind:02X}, DATL {datl}");
+    let mut buffer = [FILL; 600];
+    let Ok(length) = frame::write(sample.address, &sample.frame, &sample.data, &mut buffer) else {
+        return tally.check(false, &what);
+    };
+    let read = frame::read(&buffer[1..length - 1]);
+    let same = read.is_ok_and(|read| {
+        (read.address, read.frame, read.data) == (sample.address, sample.frame, sample.data.clone())
+    });
+    let flags = buffer[0] == stuffing::FLAG && buffer[length - 1] == stuffing::FLAG;
+    let kept = buffer[length..].iter().all(|&byte| byte == FILL);
+    tally.check(same && flags && kept, &what);
+
+    let mut tight = vec![FILL; length - 1];
+    let outcome = frame::write(sample.address, &sample.frame, &sample.data, &mut tight);
+    let untouched = tight.iter().all(|&byte| byte == FILL);
+    tally.check(outcome == Err(Refusal::Room) && untouched, &what);
+}

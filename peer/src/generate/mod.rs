@@ -1,0 +1,61 @@
+//! Seeded cases for the case programs: a fixed list of what must come up, then any.
+
+mod bad;
+mod body_laying;
+mod body_reading;
+mod crc;
+mod damage;
+mod draft;
+mod frame_faults;
+mod frame_reading;
+mod frame_writing;
+mod line;
+pub mod random;
+pub mod sample;
+
+use crate::cases::Program;
+use random::Random;
+
+/// The list is cut where `count` is smaller than its fixed part.
+pub fn cases(program: Program, seed: u64, count: usize) -> Vec<String> {
+    let random = &mut Random::new(seed);
+    let mut lines = fixed(program, random);
+    while lines.len() < count {
+        let line = any(program, random);
+        lines.push(line::recase(random, line));
+    }
+    lines.truncate(count);
+    lines
+}
+
+fn fixed(program: Program, random: &mut Random) -> Vec<String> {
+    match program {
+        Program::Crc => crc::fixed(random),
+        Program::Body => [
+            body_reading::fixed(random),
+            body_laying::fixed(random),
+            bad::body(),
+        ]
+        .concat(),
+        Program::Frame => [
+            frame_reading::fixed(random),
+            frame_writing::fixed(random),
+            bad::frame(),
+        ]
+        .concat(),
+    }
+}
+
+fn any(program: Program, random: &mut Random) -> String {
+    match program {
+        Program::Crc => crc::any(random),
+        Program::Body => match random.below(5) {
+            0..=2 => body_reading::any(random),
+            _ => body_laying::any(random),
+        },
+        Program::Frame => match random.below(5) {
+            0..=2 => frame_reading::any(random),
+            _ => frame_writing::any(random),
+        },
+    }
+}
