@@ -2,7 +2,16 @@
 use mathlib.Core.Path.{_≡_, refl}
 use mathlib.Core.Bool.{Bool, true, false, not, _&&_, _||_}
 use mathlib.Core.Logic.{_⊎_, inl, inr}
+use Prim.Native.Nat.{ℕ}
+use native.Mathlib.Omega.{arith}
 use Rattle.base.specs.Choice.{choose}
+
+-- what cannot be
+pub absurdly : {P : Type 0} → _≡_ {A = ℕ} 0 1 → P
+absurdly z = absurd (omega arith)
+
+pub never : {P : Type 0} → false ≡ true → P
+never e = absurdly (cc)
 
 pub choose-true {ℓ} : {A : Type ℓ} {b : Bool} (x y : A) → b ≡ true → choose b x y ≡ x
 choose-true {b = true} x y e = refl
@@ -24,6 +33,9 @@ and-left false b e = e
 pub and-right : (a b : Bool) → (a && b) ≡ true → b ≡ true
 and-right true b e = e
 and-right false b e = cc
+
+pub and-parts : (a b : Bool) → (a && b) ≡ true → (a ≡ true) × (b ≡ true)
+and-parts a b e = (and-left a b e, and-right a b e)
 
 pub and-true : (a b : Bool) → a ≡ true → b ≡ true → (a && b) ≡ true
 and-true true b p e = e

@@ -4,3 +4,4 @@ pub mod LayingLaws
 pub mod StuffingBothWays
 pub mod LineBytes
 pub mod BodyBothWays
+pub mod BodyLength

@@ -1,0 +1,16 @@
+pub mod Fits
+pub mod Parts
+pub mod Sealing
+pub mod Standing
+pub mod Answers
+pub mod StandsTaken
+pub mod TakenStands
+pub mod BothWays
+pub mod Sizes
+pub mod Sending
+pub mod Receiving
+pub mod LineBothWays
+pub mod AppRuns
+pub mod Runs
+pub mod Typed
+pub mod WritingLaws

@@ -1,0 +1,47 @@
+-- What an answer of the reader says: a frame is taken where its body and its application data are. Assumes nothing.
+use mathlib.Core.Path.{_≡_, refl, ap, _∙_, subst}
+use Prim.Native.Nat.{ℕ}
+use mathlib.Core.List.{List}
+use lib.ListN.{take}
+use Rattle.wire.specs.declared.body.Body.{Body}
+use Rattle.wire.specs.declared.body.Verdict.{Verdict}
+use Rattle.wire.specs.declared.body.Verdict.the-variants as verdict
+use Rattle.frames.specs.Reading.{readApp, receivedApp, byVerdict, receivedBody}
+use Rattle.frames.specs.declared.reading.Read.{Read}
+use Rattle.frames.specs.declared.reading.Read.the-variants.{Taken, Kind, Form, Check}
+use Rattle.frames.specs.declared.reading.Reading.the-variants as reading
+use Rattle.frames.specs.declared.kinds.Frame.{Frame}
+
+-- the application data of a body
+abbrev pub appIn : Body → List ℕ
+appIn b = take (b .len) (b .bytes)
+
+module _ (a : ℕ) (f : Frame) where
+  by-verdict : (v : Verdict) (b : Body) → byVerdict v b .reading ≡ reading.Taken a f → v ≡ verdict.Taken
+  by-verdict verdict.Taken b e = refl
+  by-verdict verdict.Length b e = cc
+  by-verdict verdict.Stuffing b e = cc
+  by-verdict verdict.Size b e = cc
+  by-verdict verdict.Check b e = cc
+  by-verdict verdict.Reserved b e = cc
+
+  by-read : (r : Read) (b : Body) → receivedApp r b .reading ≡ reading.Taken a f → (b .addr ≡ a) × (r ≡ Taken f)
+  by-read (Taken g) b e = ((cc), (cc))
+  by-read Kind b e = ((cc), (cc))
+  by-read Form b e = ((cc), (cc))
+  by-read Check b e = ((cc), (cc))
+
+  -- the frame is read from the application data of a body that was taken, for its address
+  pub read-says : (b : Body) → receivedBody b .reading ≡ reading.Taken a f
+      → (b .verdict ≡ verdict.Taken) × (b .addr ≡ a) × (readApp (b .addr) (appIn b) ≡ Taken f)
+  unfolding receivedBody
+  read-says b e =
+      let v : b .verdict ≡ verdict.Taken = by-verdict (b .verdict) b e in
+      let w = by-read (readApp (b .addr) (appIn b)) b (subst (λ (x : Verdict). byVerdict x b .reading ≡ reading.Taken a f) v e) in
+      (v, w .0, w .1)
+
+-- and it comes with them
+pub read-holds : (b : Body) (f : Frame) → b .verdict ≡ verdict.Taken → readApp (b .addr) (appIn b) ≡ Taken f
+    → receivedBody b ≡ record { reading = reading.Taken (b .addr) f; bytes = b .bytes; len = b .len }
+unfolding receivedBody
+read-holds b f v r = ap (λ (x : Verdict). byVerdict x b) v ∙ ap (λ (x : Read). receivedApp x b) r

@@ -1,0 +1,13 @@
+-- How the code holds a list of fields. Assumes nothing.
+use mathlib.Core.List.{List, [], _∷_, _++_}
+use Prim.Native.Nat.{ℕ, zero, suc}
+use lib.ListN.{getD}
+use Rattle.frames.specs.declared.putting.Fields.{Fields}
+
+-- the first n of the widths and numbers, in pairs
+abbrev pub paired : List ℕ → List ℕ → ℕ → List (ℕ × ℕ)
+paired ws vs zero = []
+paired ws vs (suc n) = paired ws vs n ++ ((getD ws n 0, getD vs n 0) ∷ [])
+
+abbrev pub fieldsIn : Fields → List (ℕ × ℕ)
+fieldsIn f = paired (f .widths) (f .values) (f .count)

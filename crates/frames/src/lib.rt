@@ -1,0 +1,5 @@
+// The frames of the bus: their kinds, read from application data and written to the line.
+pub mod kinds;
+mod putting;
+pub mod reading;
+pub mod writing;
