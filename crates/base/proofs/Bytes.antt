@@ -1,10 +1,15 @@
 -- Lists whose elements are all bytes: how they are made and taken apart. Assumes nothing.
+use mathlib.Core.Path.{_≡_}
+use mathlib.Core.Bool.{Bool, true, _&&_}
 use mathlib.Core.List.{List, [], _∷_, _++_}
 use Prim.Native.Nat.{ℕ, zero, suc, _/_, _%_, _<_}
 use native.Mathlib.Omega.{arith}
-use lib.ListN.{take, drop}
+use borrow.Author.Tests.{ltb-true}
+use lib.Dec.{ltb}
+use lib.ListN.{take, drop, replicate}
 use lib.Seq.{getD-drop}
 use Rattle.base.specs.Bytes.{Bytes, bytesOf}
+use Rattle.base.proofs.Choosing.{and-left, and-right}
 use Rattle.base.proofs.Elements.{nil-each, cons-each, tail-each, append-each, behind-each}
 
 abbrev Byte : ℕ → Type 0
@@ -46,3 +51,17 @@ unfolding bytesOf
 bytes-bytesOf zero n = bytes-nil
 bytes-bytesOf (suc w) n =
     bytes-append (bytesOf w (n / 256)) (n % 256 ∷ []) (bytes-bytesOf w (n / 256)) (bytes-single (n % 256) (omega arith))
+
+pub bytes-replicate : (n x : ℕ) → x < 256 → Bytes (replicate n x)
+bytes-replicate zero x h = bytes-nil
+bytes-replicate (suc n) x h = bytes-cons x (replicate n x) h (bytes-replicate n x h)
+
+-- a list that is written out, by computing
+abbrev pub allBytes : List ℕ → Bool
+allBytes [] = true
+allBytes (x ∷ xs) = ltb x 256 && allBytes xs
+
+pub bytes-written : (xs : List ℕ) → allBytes xs ≡ true → Bytes xs
+bytes-written [] e = bytes-nil
+bytes-written (x ∷ xs) e =
+    bytes-cons x xs (ltb-true x 256 (and-left (ltb x 256) (allBytes xs) e)) (bytes-written xs (and-right (ltb x 256) (allBytes xs) e))

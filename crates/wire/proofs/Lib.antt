@@ -5,3 +5,4 @@ pub mod StuffingBothWays
 pub mod LineBytes
 pub mod BodyBothWays
 pub mod BodyLength
+pub mod ReadBytes

@@ -1,0 +1,3 @@
+pub mod Stuffed
+pub mod Table
+pub mod Journeyed

@@ -1,0 +1,40 @@
+-- The history of a list of calls from power-up: each call, its answer, and what may be seen of the agent before and
+-- after: mode, outputs, t, n, m. The counters of the agent are not among it. Assumes nothing.
+use mathlib.Core.List.{List, [], _∷_}
+use Prim.Native.Nat.{ℕ, _+_}
+use Rattle.rules.specs.Calls.{Call, act}
+use Rattle.rules.specs.Registers.{outputsAt}
+use Rattle.rules.specs.Replies.{Outcome}
+use Rattle.rules.specs.State.{reg, tOf, nOf, mOf}
+use Rattle.rules.specs.declared.Agent.{Agent}
+
+infixl 20 _▸_
+-- outputs are counted from 0 to 63
+pub record Seen : Type 0 where
+  pub mode : ℕ
+  pub out : ℕ → ℕ
+  pub t : ℕ
+  pub n : ℕ
+  pub m : ℕ
+
+pub record Entry : Type 0 where
+  pub call : Call
+  pub answer : ℕ
+  pub before : Seen
+  pub after : Seen
+
+-- the calls since power-up, the latest on the right
+pub data History : Type 0 where
+  powerOn : History
+  _▸_ : History → Entry → History
+
+abbrev pub seen : Agent → Seen
+seen a = record { mode = a .mode; out = λ i. reg a (outputsAt + i); t = tOf a; n = nOf a; m = mOf a }
+
+abbrev pub entry : Agent → Call → Outcome → Entry
+entry a call o = record { call = call; answer = o .answer; before = seen a; after = seen (o .agent) }
+
+-- each call on the agent as the one before left it
+abbrev pub history : Agent → History → List Call → History
+history a h [] = h
+history a h (x ∷ xs) = history (act a x .agent) (h ▸ entry a x (act a x)) xs

@@ -1,0 +1,5 @@
+pub mod Events
+pub mod History
+pub mod Words
+pub mod Claim
+pub mod Sharper

@@ -1,0 +1,81 @@
+-- What demand 3 comes to for the concentrators on the ring: a request is taken only when it is fresh; one from a
+-- concentrator that lost the ring, and a copy of one already taken, change neither an output nor the mode.
+-- Assumes nothing.
+use mathlib.Core.List.{List, _∷_}
+use mathlib.Core.Option.{some}
+use mathlib.Core.Path.{_≡_}
+use Prim.Native.Nat.{ℕ, _<_}
+use Rattle.frames.specs.Reading.{readFrame}
+use Rattle.frames.specs.declared.kinds.Frame.the-variants.{SafeRead, SafeWrite}
+use Rattle.frames.specs.declared.reading.Reading.the-variants.{Taken}
+use Rattle.rules.specs.Calls.{Call, frame}
+use Rattle.rules.specs.PowerUp.{powerUp}
+use Rattle.rules.specs.Registers.{image}
+use Rattle.demand3.specs.Claim.{Everywhere, BytesCalls}
+use Rattle.demand3.specs.Events.{Request, aSync, aRequest, aRefusedWrite}
+use Rattle.demand3.specs.History.{History, powerOn, _▸_, Entry, history}
+use Rattle.demand3.specs.Words.{event, lastSync, ownSid, taken, numberDue}
+
+-- ---- every request that is taken is fresh
+
+-- the call takes this request: answered 0 or 16
+pub data Takes (e : Entry) (r : Request) : Type 0 where
+  accepts : event e ≡ aRequest r → Takes e r
+  refuses : event e ≡ aRefusedWrite r → Takes e r
+
+-- to the own SID, from the source and with the cycle of the last accepted sync, with the number due
+pub record Fresh (h : History) (r : Request) : Type 0 where
+  pub own : ownSid h ≡ some (r .dest)
+  pub of-sync : lastSync h ≡ some (r .src, r .cyc)
+  pub due : numberDue h ≡ some (r .seq)
+
+-- ---- what a call hands over, whatever it is answered
+
+-- the body reads as a safe request with these fields
+pub data Asks (body : List ℕ) (dest src cyc seq : ℕ) : Type 0 where
+  to-read : (address datl add : ℕ) → readFrame body .reading ≡ Taken address (SafeRead dest src cyc seq datl add) → Asks body dest src cyc seq
+  to-write : (address datl add : ℕ) → readFrame body .reading ≡ Taken address (SafeWrite dest src cyc seq datl add) → Asks body dest src cyc seq
+
+-- a frame call, on any port and with any reply buffer, whose body is such a request
+pub record Brings (call : Call) (src seq : ℕ) : Type 0 where
+  pub port : ℕ
+  pub body : List ℕ
+  pub room : ℕ
+  pub dest : ℕ
+  pub cyc : ℕ
+  pub called : call ≡ frame port body room
+  pub asks : Asks body dest src cyc seq
+
+-- the call changes no output, nor the mode
+pub record Unchanged (e : Entry) : Type 0 where
+  pub outputs : (i : ℕ) → i < image → e .after .out i ≡ e .before .out i
+  pub mode : e .after .mode ≡ e .before .mode
+
+-- ---- the concentrator that lost the ring
+
+-- a sync from another source was accepted, and since then none from src
+pub data Deposed (src : ℕ) : History → Type 0 where
+  by : {h : History} {e : Entry} (other cyc : ℕ) → event e ≡ aSync other cyc → (src ≡ other → ⊥) → Deposed src (h ▸ e)
+  since : {h : History} {e : Entry} → Deposed src h → ((cyc : ℕ) → event e ≡ aSync src cyc → ⊥) → Deposed src (h ▸ e)
+
+-- ---- copies
+
+-- x is in the list
+pub data Among (x : ℕ) : List ℕ → Type 0 where
+  here : {l : List ℕ} → Among x (x ∷ l)
+  there : {y : ℕ} {l : List ℕ} → Among x l → Among x (y ∷ l)
+
+-- ---- the sentences
+
+pub record Sharper (h : History) : Type 0 where
+  -- every request taken, a read or a refused write too, is fresh
+  pub fresh : Everywhere (λ past e. (r : Request) → Takes e r → Fresh past r) h
+  -- after a sync from another source is accepted, no request of the earlier concentrator, a write among them, changes an
+  -- output or the mode until a sync of its own is accepted again
+  pub deposed : Everywhere (λ past e. (src seq : ℕ) → Brings (e .call) src seq → Deposed src past → Unchanged e) h
+  -- a request with a SEQ already taken since the last accepted sync, as a copy on either port has, changes neither
+  pub copy : Everywhere (λ past e. (src seq : ℕ) → Brings (e .call) src seq → Among seq (taken past) → Unchanged e) h
+
+-- for every MAC, IID and VER and every list of calls from power-up
+abbrev pub Sharpened : Type 0
+Sharpened = (mac iid ver : ℕ) (calls : List Call) → BytesCalls calls → Sharper (history (powerUp mac iid ver) powerOn calls)

@@ -1,0 +1,39 @@
+-- Numbers in registers, low byte first: what is stored is read back. Assumes nothing.
+use mathlib.Core.Path.{_≡_, refl, sym, ap, ap₂, _∙_}
+use mathlib.Core.List.{List}
+use Prim.Native.Nat.{ℕ, zero, suc, _+_, _*_, _/_, _%_, _^_, _≤_, _<_}
+use native.Mathlib.Nat.{add-zero, add-assoc, pow-suc}
+use native.Mathlib.Omega.{arith}
+use lib.ListN.{length, getD}
+use lib.Seq.{sets}
+use Rattle.base.specs.Bytes.{Bytes}
+use Rattle.base.proofs.Bytes.{bytes-nil, bytes-cons}
+use Rattle.base.proofs.Stored.{stored-at}
+use Rattle.rules.specs.Registers.{lowBytes, lowNumber}
+
+pub length-low : (w n : ℕ) → length (lowBytes w n) ≡ w
+unfolding lowBytes
+length-low zero n = refl
+length-low (suc w) n = ap suc (length-low w (n / 256))
+
+pub bytes-low : (w n : ℕ) → Bytes (lowBytes w n)
+unfolding lowBytes
+bytes-low zero n = bytes-nil
+bytes-low (suc w) n = bytes-cons (n % 256) (lowBytes w (n / 256)) (omega arith) (bytes-low w (n / 256))
+
+-- registers that hold a number's bytes from a place on hold the number there
+low-held : (w i n : ℕ) (q : List ℕ) → ((k : ℕ) → k < w → getD q (i + k) 0 ≡ getD (lowBytes w n) k 0) → n < 256 ^ w → lowNumber q i w ≡ n
+unfolding lowBytes lowNumber
+low-held zero i n q f h = omega arith
+low-held (suc w) i n q f h =
+    let p : n < 256 ^ w * 256 = rw pow-suc at h in
+    let first : getD q i 0 ≡ n % 256 = ap (λ (k : ℕ). getD q k 0) (sym (add-zero i)) ∙ f 0 (omega arith) in
+    let rest : lowNumber q (i + 1) w ≡ n / 256 =
+    low-held w (i + 1) (n / 256) q
+    (λ k l. ap (λ (j : ℕ). getD q j 0) (add-assoc i 1 k ∙ ap (λ (j : ℕ). i + j) (omega arith)) ∙ f (suc k) (omega arith)) (omega arith) in
+    ap₂ (λ (x y : ℕ). x + y * 256) first rest ∙ omega arith
+
+pub low-stored : (r : List ℕ) (i w n : ℕ) → n < 256 ^ w → i + w ≤ length r → lowNumber (sets r i (lowBytes w n)) i w ≡ n
+low-stored r i w n h f =
+    low-held w i n (sets r i (lowBytes w n))
+    (λ k l. stored-at r i (lowBytes w n) k (omega (arith, length-low w n)) (omega (arith, length-low w n))) h

@@ -1,0 +1,14 @@
+-- The fields of a frame that the reader takes from bytes fit their lengths. Assumes nothing.
+use mathlib.Core.Path.{_≡_}
+use mathlib.Core.List.{List}
+use Prim.Native.Nat.{ℕ}
+use Rattle.base.specs.Bytes.{Bytes}
+use Rattle.frames.specs.Reading.{readApp}
+use Rattle.frames.specs.declared.kinds.Frame.{Frame}
+use Rattle.frames.specs.declared.reading.Read.the-variants.{Taken}
+use Rattle.frames.proofs.Fits.{FittingFrame}
+use Rattle.frames.proofs.Standing.{stands-fitting}
+use Rattle.frames.proofs.TakenStands.{stands}
+
+pub taken-fitting : (a : ℕ) (s : List ℕ) (f : Frame) → Bytes s → readApp a s ≡ Taken f → FittingFrame f
+taken-fitting a s f bs e = stands-fitting a s f bs (stands a s bs f e)

@@ -1,0 +1,58 @@
+-- Document 01, "Traps of this bus", and what else is easily got wrong: what the rules do there, rule by rule.
+-- Assumes nothing.
+use mathlib.Core.Bool.{Bool, true, false, not, _&&_, _||_}
+use mathlib.Core.Path.{_≡_, refl, sym, ap, _∙_}
+use Prim.Native.Nat.{ℕ, _+_, _<_}
+use native.Mathlib.Omega.{arith}
+use lib.Dec.{eqb}
+use lib.ListN.{length}
+use Rattle.base.proofs.Choosing.{choose-true, or-second}
+use Rattle.rules.specs.Answers.{source, addressee, cycle, repeat}
+use Rattle.rules.specs.Fallback.{withheld, enterFallback, enterRun}
+use Rattle.rules.specs.Marks.{sequenceMarked}
+use Rattle.rules.specs.Registers.{outRep, outputsAt, image}
+use Rattle.rules.specs.Replies.{does}
+use Rattle.rules.specs.Requests.{Ask, onRequest}
+use Rattle.rules.specs.Sources.{isRecorded, sidOf}
+use Rattle.rules.specs.State.{isHeard, unheard, nobody, running}
+use Rattle.rules.specs.Sync.{isRepeat, cycleFits, onSync}
+use Rattle.rules.specs.Tick.{syncLimit, limited}
+use Rattle.rules.specs.declared.Agent.{Agent}
+
+module _ (port : ℕ) (a : Agent) (src cyc : ℕ) (known : (eqb src nobody || not (isRecorded a src)) ≡ false) where
+  -- a repeated sync is 13 and changes nothing, so k is not reset; 13 comes before 12
+  pub repeated-sync : isRepeat a src cyc ≡ true → onSync port a src cyc ≡ does repeat a
+  unfolding onSync
+  repeated-sync e = simp (known, e)
+
+  -- a sync that is refused with 12 does not restart the silence clock
+  pub refused-sync : isRepeat a src cyc ≡ false → (running a && not (cycleFits a cyc)) ≡ true → onSync port a src cyc .agent .silence ≡ a .silence
+  unfolding onSync enterFallback sequenceMarked
+  refused-sync e f = simp (known, e, f)
+
+module _ (port : ℕ) (a : Agent) (dest src cyc seq : ℕ) (ask : Ask) where
+  -- a request of a concentrator other than that of the last accepted sync, recorded or not, is 10
+  pub deposed-request : not (eqb src (a .last)) ≡ true → onRequest port a dest src cyc seq ask ≡ does source a
+  unfolding onRequest
+  deposed-request e = choose-true (does source a) _ (or-second (eqb src nobody) (not (eqb src (a .last))) e)
+
+  -- in an unheard cycle no request is taken: 12
+  pub unheard-request : (eqb src nobody || not (eqb src (a .last))) ≡ false → not (eqb dest (sidOf a)) ≡ false → eqb (a .heard) isHeard ≡ false
+      → onRequest port a dest src cyc seq ask ≡ does cycle (sequenceMarked a)
+  unfolding onRequest
+  unheard-request e f g = simp (e, f, g)
+
+-- no release is left pending after n × t of silence: OUT_REP falls in either mode
+pub silent-release : (a : Agent) → syncLimit a ≡ true → limited a ≡ enterFallback a
+unfolding limited
+silent-release a e = simp e
+
+-- CYC 00h follows FFh
+pub cycle-wraps : (a : Agent) → a .cycle ≡ 0xFF → cycleFits a 0x00 ≡ true
+unfolding cycleFits
+cycle-wraps a e = simp e
+
+-- q starts at 0 on entry to RUN
+pub run-restarts : (a : Agent) → enterRun a .idle ≡ 0
+unfolding enterRun
+run-restarts a = refl

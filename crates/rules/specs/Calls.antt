@@ -1,0 +1,49 @@
+-- The calls, with the host's numbers first: 19, 20, 21. Assumes nothing.
+use mathlib.Core.Bool.{Bool, not, _||_}
+use mathlib.Core.List.{List, [], _++_}
+use Prim.Native.Nat.{ℕ}
+use lib.Dec.{eqb, ltb}
+use lib.ListN.{length, drop}
+use Rattle.base.specs.Choice.{choose}
+use Rattle.rules.specs.Answers.{accepted, unsound, replyRoom, hostInput}
+use Rattle.rules.specs.FrameCall.{onFrame}
+use Rattle.rules.specs.Inputs.{withInputs}
+use Rattle.rules.specs.Registers.{image}
+use Rattle.rules.specs.Replies.{Outcome, outcome, sent}
+use Rattle.rules.specs.Sound.{sound}
+use Rattle.rules.specs.Tick.{ticked}
+use Rattle.rules.specs.declared.Agent.{Agent}
+
+-- the reply buffer has at least so many bytes
+abbrev pub leastRoom : ℕ
+leastRoom = 545
+
+unfoldable pub tickCall : Agent → Outcome
+tickCall a = choose (sound a) (outcome accepted (ticked a)) (outcome unsound a)
+
+unfoldable pub inputCall : Agent → List ℕ → Outcome
+inputCall a xs =
+    choose (sound a) (choose (eqb (length xs) image) (outcome accepted (withInputs xs a)) (outcome hostInput a)) (outcome unsound a)
+
+-- a port, a body, and the length of the reply buffer
+unfoldable pub frameCall : Agent → ℕ → List ℕ → ℕ → Outcome
+frameCall a port body room =
+    choose (sound a)
+    (choose (ltb room leastRoom) (outcome replyRoom a)
+    (choose (eqb port 1 || eqb port 2) (sent (onFrame port a body)) (outcome hostInput a)))
+    (outcome unsound a)
+
+-- the reply buffer afterwards: what was sent, and the bytes past it as they were
+abbrev pub leftIn : Outcome → List ℕ → List ℕ
+leftIn o buffer = o .line ++ drop (length (o .line)) buffer
+
+-- a call of a list
+pub data Call : Type 0 where
+  tick : Call
+  input : List ℕ → Call
+  frame : (port : ℕ) (body : List ℕ) (room : ℕ) → Call
+
+abbrev pub act : Agent → Call → Outcome
+act a tick = tickCall a
+act a (input xs) = inputCall a xs
+act a (frame port body room) = frameCall a port body room

@@ -1,0 +1,87 @@
+-- The frame call: numbers 1 to 9, and then by the kind of frame. Assumes nothing.
+use mathlib.Core.Bool.{Bool, not, _&&_, _||_}
+use mathlib.Core.List.{List, []}
+use Prim.Native.Nat.{ℕ, _+_}
+use lib.Dec.{eqb}
+use lib.ListN.{length, take}
+use Rattle.base.specs.Choice.{choose}
+use Rattle.base.specs.Bytes.{numberAt}
+use Rattle.wire.specs.Body.{readBody}
+use Rattle.wire.specs.declared.body.Body.{Body}
+use Rattle.wire.specs.declared.body.Verdict.{Verdict}
+use Rattle.wire.specs.declared.body.Verdict.the-variants as verdict
+use Rattle.frames.specs.Kinds.{dataIn}
+use Rattle.frames.specs.Reading.{readApp}
+use Rattle.frames.specs.declared.kinds.Frame.{Frame}
+use Rattle.frames.specs.declared.kinds.Frame.the-variants.{Sync, SafeRead, SafeWrite, PlainRead, PlainWrite, SafeResponse, PlainSyncResponse, PlainResponse, TidAssignment, SidAssignment, SidAssignment4, Acknowledgement, Invariants}
+use Rattle.frames.specs.declared.reading.Read.{Read}
+use Rattle.frames.specs.declared.reading.Read.the-variants.{Taken, Kind, Form, Check}
+use Rattle.rules.specs.Answers.{bodyLength, stuffing, unstuffedLength, fcs, reserved, elsewhere, typ, form, crc}
+use Rattle.rules.specs.Assignments.{onTid, onSid}
+use Rattle.rules.specs.Marks.{lineMarked, formatMarked}
+use Rattle.rules.specs.Registers.{tidAt}
+use Rattle.rules.specs.Replies.{does}
+use Rattle.rules.specs.Requests.{reads, writes, onRequest}
+use Rattle.rules.specs.State.{reg}
+use Rattle.rules.specs.Sync.{onSync}
+use Rattle.rules.specs.declared.Agent.{Agent}
+use Rattle.rules.specs.declared.Deed.{Deed}
+
+-- by the kind of a served frame with its data
+abbrev pub onKind : ℕ → Agent → Frame → List ℕ → Deed
+onKind port a (Sync src cyc) xs = onSync port a src cyc
+onKind port a (SafeRead dest src cyc seq datl add) xs = onRequest port a dest src cyc seq (reads datl add)
+onKind port a (SafeWrite dest src cyc seq datl add) xs = onRequest port a dest src cyc seq (writes add xs)
+onKind port a (TidAssignment src iid tid) xs = onTid a iid tid
+onKind port a (SidAssignment src sec mac sid) xs = onSid a src sec mac sid
+-- not served
+onKind port a (PlainRead src datl add) xs = does typ a
+onKind port a (PlainWrite src datl add) xs = does typ a
+onKind port a (SafeResponse dest src cyc seq kind datl add stat) xs = does typ a
+onKind port a (PlainSyncResponse src datl add stat) xs = does typ a
+onKind port a (PlainResponse src kind datl add) xs = does typ a
+onKind port a (SidAssignment4 src sec mac sid sid2 src2) xs = does form a
+onKind port a (Acknowledgement src dst sec mac) xs = does typ a
+onKind port a (Invariants dest src cyc seq config logic) xs = does typ a
+
+-- served: 00h, 07h, 3Ch, C3h
+unfoldable pub served : ℕ → Bool
+served kind = eqb kind 0x00 || eqb kind 0x07 || eqb kind 0x3C || eqb kind 0xC3
+
+-- a SIL4 assignment is 8 for this module
+abbrev pub isSil4 : List ℕ → Bool
+isSil4 s = eqb (numberAt s 0 1) 0xC3 && eqb (length s) 27
+
+-- application data as this module reads them
+unfoldable pub agentRead : ℕ → List ℕ → Read
+agentRead addr s = choose (served (numberAt s 0 1)) (choose (isSil4 s) Form (readApp addr s)) Kind
+
+-- 7, 8, 9, then the kind
+abbrev pub onRead : ℕ → Agent → Read → List ℕ → Deed
+onRead port a (Taken f) s = onKind port a f (dataIn f s)
+onRead port a Kind s = does typ (formatMarked a)
+onRead port a Form s = does form a
+onRead port a Check s = does crc a
+
+-- 6: the address is the own TID, 90h or FFh
+abbrev pub isOwn : Agent → ℕ → Bool
+isOwn a addr = eqb addr (reg a tidAt) || eqb addr 0x90 || eqb addr 0xFF
+
+unfoldable pub onApp : ℕ → Agent → ℕ → List ℕ → Deed
+onApp port a addr s = choose (isOwn a addr) (onRead port a (agentRead addr s) s) (does elsewhere a)
+
+-- 1 to 4 are the line's, 5 another station's
+abbrev pub onVerdict : ℕ → Agent → Verdict → Body → Deed
+onVerdict port a verdict.Taken b = onApp port a (b .addr) (take (b .len) (b .bytes))
+onVerdict port a verdict.Length b = does bodyLength (lineMarked a)
+onVerdict port a verdict.Stuffing b = does stuffing (lineMarked a)
+onVerdict port a verdict.Size b = does unstuffedLength (lineMarked a)
+onVerdict port a verdict.Check b = does fcs (lineMarked a)
+onVerdict port a verdict.Reserved b = does reserved a
+
+unfoldable pub onBody : ℕ → Agent → Body → Deed
+onBody port a b = onVerdict port a (b .verdict) b
+
+-- a body that came on a port
+unfoldable pub onFrame : ℕ → Agent → List ℕ → Deed
+onFrame port a body = onBody port a (readBody body)

@@ -1,0 +1,23 @@
+-- What a refusal marks and counts: STATUT bits, and counters that stop at 255. Assumes nothing.
+use Prim.Native.Nat.{ℕ, _+_}
+use lib.Bits.{bitOr}
+use lib.Dec.{ltb}
+use Rattle.base.specs.Choice.{choose}
+use Rattle.rules.specs.Registers.{statut, cptSeq, cptFor}
+use Rattle.rules.specs.State.{reg, store}
+use Rattle.rules.specs.declared.Agent.{Agent}
+
+abbrev pub counter : ℕ → ℕ
+counter x = choose (ltb x 255) (x + 1) 255
+
+-- 1 to 4: bit 5
+unfoldable pub lineMarked : Agent → Agent
+lineMarked a = store statut (bitOr (reg a statut) 0x20) a
+
+-- 7: bit 5, and CPT_FOR (24h) + 1
+unfoldable pub formatMarked : Agent → Agent
+formatMarked a = store cptFor (counter (reg a cptFor)) (lineMarked a)
+
+-- 12 and 14: bit 1, and CPT_SEQ (20h) + 1
+unfoldable pub sequenceMarked : Agent → Agent
+sequenceMarked a = store cptSeq (counter (reg a cptSeq)) (store statut (bitOr (reg a statut) 0x02) a)

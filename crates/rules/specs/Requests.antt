@@ -1,0 +1,51 @@
+-- Safe request. Assumes nothing.
+use mathlib.Core.Bool.{Bool, not, _&&_, _||_}
+use mathlib.Core.List.{List}
+use Prim.Native.Nat.{ℕ, _+_, _-_, _%_}
+use lib.Dec.{eqb, leb, ltb}
+use Rattle.base.specs.Choice.{choose}
+use Rattle.rules.specs.Answers.{source, addressee, cycle, repeat, outOfOrder, tooMany}
+use Rattle.rules.specs.Marks.{sequenceMarked}
+use Rattle.rules.specs.Replies.{does, readReply}
+use Rattle.rules.specs.Sources.{sidOf}
+use Rattle.rules.specs.State.{isHeard, nobody, withTaken}
+use Rattle.rules.specs.Writes.{onWrite}
+use Rattle.rules.specs.declared.Agent.{Agent}
+use Rattle.rules.specs.declared.Deed.{Deed}
+
+-- the most requests a cycle
+abbrev pub mostTaken : ℕ
+mostTaken = 64
+
+-- the first SEQ of a cycle is the complement of CYC plus one, modulo 256
+abbrev pub firstSeq : ℕ → ℕ
+firstSeq cyc = (255 - cyc + 1) % 256
+
+-- d = SEQ minus that first, modulo 256
+unfoldable pub distance : ℕ → ℕ → ℕ
+distance seq cyc = (seq + 256 - firstSeq cyc) % 256
+
+-- what a request asks for
+pub data Ask : Type 0 where
+  reads : (datl add : ℕ) → Ask
+  writes : (add : ℕ) → List ℕ → Ask
+
+abbrev pub onAsk : ℕ → Agent → ℕ → ℕ → Ask → Deed
+onAsk port a src seq (reads datl add) = readReply port a src seq datl add
+onAsk port a src seq (writes add xs) = onWrite a add xs
+
+-- by the distance: below k is a repeat, above k is out of order; a due one raises k even if its write is then refused
+unfoldable pub onDistance : ℕ → Agent → ℕ → ℕ → ℕ → Ask → Deed
+onDistance port a src seq d ask =
+    choose (ltb d (a .taken)) (does repeat a)
+    (choose (ltb (a .taken) d) (does outOfOrder (sequenceMarked a))
+    (choose (leb mostTaken (a .taken)) (does tooMany a)
+    (onAsk port (withTaken (d + 1) a) src seq ask)))
+
+-- 10: the source is that of the last accepted sync; 11: the own SID; 12: the cycle is heard and CYC = c
+unfoldable pub onRequest : ℕ → Agent → ℕ → ℕ → ℕ → ℕ → Ask → Deed
+onRequest port a dest src cyc seq ask =
+    choose (eqb src nobody || not (eqb src (a .last))) (does source a)
+    (choose (not (eqb dest (sidOf a))) (does addressee a)
+    (choose (not (eqb (a .heard) isHeard && eqb cyc (a .cycle))) (does cycle (sequenceMarked a))
+    (onDistance port a src seq (distance seq cyc) ask)))

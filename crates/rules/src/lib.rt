@@ -1,0 +1,57 @@
+// The state of the module's bus agent. What the calls do to it is defined in specs/, in the order of document 01.
+
+use frames::kinds::Frame;
+
+// Plain unsigned numbers and arrays only: every bit pattern that a host hands in is a value, and soundness decides.
+#[repr(C)]
+pub struct Agent {
+    pub regs: [u8; 256],
+    // the recorded concentrators, the first `count` of them
+    pub known: [u32; 8],
+    // the source of the last accepted sync; FFFFFFh for none
+    pub last: u32,
+    // s: ms since the last accepted sync, stops at 65,535
+    pub silence: u16,
+    // q: ms since the last output write or entry to RUN
+    pub idle: u16,
+    // c: the cycle counter
+    pub cycle: u8,
+    // e: ms in the cycle
+    pub elapsed: u8,
+    // k: requests taken in the cycle
+    pub taken: u8,
+    // RUN (1) or fallback (0)
+    pub mode: u8,
+    // whether the cycle is heard (1) or not (0)
+    pub heard: u8,
+    pub count: u8,
+}
+
+// The spans that can be written, each as a whole or in part.
+pub enum Span {
+    Release,
+    CycleTime,
+    Limits,
+    Counters,
+    Config,
+    Outputs,
+    Outside,
+}
+
+// What a frame would have the module send: nothing, or a frame.
+pub enum Reply {
+    Silent,
+    Says(Frame),
+}
+
+// What a frame does: the answer, the agent, and what it would send.
+pub struct Deed {
+    pub answer: u8,
+    pub agent: Agent,
+    pub reply: Reply,
+}
+
+// The same byte. A crate has at least one function.
+pub fn same(x: u8) -> u8 {
+    x
+}
