@@ -1,0 +1,10 @@
+// The case programs: each line of standard input is one case, written in hex digits, and each prints one line.
+mod answers;
+mod body_case;
+mod crc_case;
+mod frame_case;
+mod frame_fields;
+mod running;
+
+pub use running::Cases;
+pub use running::run;

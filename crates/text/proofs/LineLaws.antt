@@ -1,0 +1,136 @@
+-- Laws of lines: counts, where a line ends, and the loop that takes one. Assumes nothing.
+use mathlib.Core.Path.{_≡_, refl, sym, ap, ap₂, _∙_}
+use mathlib.Core.Bool.{Bool, true, false}
+use mathlib.Core.List.{List, [], _∷_}
+use Prim.Native.Nat.{ℕ, _+_, _≤_, _<_}
+use native.Mathlib.Omega.{arith}
+use native.Mathlib.Nat.{add-zero}
+use native.Mathlib.Numerals.{add-one}
+use borrow.Author.Tests.{eq-eqb, ne-eqb, lt-ltb, le-ltb, ltb-true, ltb-false}
+use lib.Dec.{ltb}
+use lib.ListN.{length, drop, getD, set, length-set, drop-of-length-le}
+use lib.Seq.{sets, drop-cons}
+use Rattle.base.proofs.StoresPast.{sets-past}
+use Rattle.text.specs.Lines.{beforeEnd, counted, takenOf}
+use Rattle.text.specs.declared.lines.Taken.the-variants.{Line, More}
+
+-- ---- counts
+pub counted-past : (room n : ℕ) → room < n → room + 1 ≡ counted room n
+unfolding counted
+counted-past room n h = simp (lt-ltb _ _ h)
+
+pub counted-within : (room n : ℕ) → n ≤ room → n ≡ counted room n
+unfolding counted
+counted-within room n h = simp (le-ltb _ _ h)
+
+-- what holds on both sides of the room holds of the count
+counted-cases : (P : ℕ → Type 0) (room n : ℕ) → (room < n → P (room + 1)) → (n ≤ room → P n) → P (counted room n)
+counted-cases P room n past within = by (ltb room n) refl
+  where
+    by : (t : Bool) → ltb room n ≡ t → P (counted room n)
+    by true e = rw (← counted-past room n (ltb-true _ _ e)) (past (ltb-true _ _ e))
+    by false e = rw (← counted-within room n (ltb-false _ _ e)) (within (ltb-false _ _ e))
+
+counted-most : (room n : ℕ) → counted room n ≤ room + 1
+counted-most room n = counted-cases (λ k. k ≤ room + 1) room n (λ h. omega arith) (λ h. omega arith)
+
+-- a count that passed the room stays there
+counted-told : (room n : ℕ) → n ≤ room + 1 → n ≡ counted room n
+counted-told room n h = counted-cases (λ k. n ≡ k) room n (λ p. omega arith) (λ p. refl)
+
+counted-more : (room n k : ℕ) → counted room (counted room n + k) ≡ counted room (n + k)
+counted-more room n k =
+    counted-cases (λ m. counted room (m + k) ≡ counted room (n + k)) room n
+    (λ h. sym (counted-past room (room + 1 + k) (omega arith)) ∙ counted-past room (n + k) (omega arith)) (λ h. refl)
+
+-- and nothing is stored behind it
+counted-sets : (l vs : List ℕ) (n : ℕ) → sets l (counted (length l) n) vs ≡ sets l n vs
+counted-sets l vs n =
+    counted-cases (λ m. sets l m vs ≡ sets l n vs) (length l) n
+    (λ h. sets-past l (length l + 1) vs (omega arith) ∙ sym (sets-past l n vs (omega arith))) (λ h. refl)
+
+-- ---- where a line ends
+end-other : (c : ℕ) (cs : List ℕ) → (c ≡ 0x0A → ⊥) → beforeEnd (c ∷ cs) ≡ c ∷ beforeEnd cs
+unfolding beforeEnd
+end-other c cs n = simp (ne-eqb _ _ n)
+
+end-lf : (c : ℕ) (cs : List ℕ) → c ≡ 0x0A → beforeEnd (c ∷ cs) ≡ []
+unfolding beforeEnd
+end-lf c cs e = simp (eq-eqb _ _ e)
+
+rest-turn : (s : List ℕ) (i : ℕ) → i < length s → (getD s i 0 ≡ 0x0A → ⊥) → beforeEnd (drop i s) ≡ getD s i 0 ∷ beforeEnd (drop (i + 1) s)
+rest-turn s i h k = ap beforeEnd (drop-cons s i 0 h ∙ ap (λ (m : ℕ). getD s i 0 ∷ drop m s) (sym (add-one i))) ∙ end-other _ _ k
+
+rest-lf : (s : List ℕ) (i : ℕ) → i < length s → getD s i 0 ≡ 0x0A → beforeEnd (drop i s) ≡ []
+rest-lf s i h k = ap beforeEnd (drop-cons s i 0 h) ∙ end-lf _ _ k
+
+rest-none : (s : List ℕ) (i : ℕ) → length s ≤ i → beforeEnd (drop i s) ≡ []
+unfolding beforeEnd
+rest-none s i h = rw drop-of-length-le
+
+-- ---- the loop: the rest of the line, added at the present place, gives the whole
+module _ (s : List ℕ) (from : ℕ) (line₀ : List ℕ) (len : ℕ) where
+  abbrev room : ℕ
+  room = length line₀
+
+  abbrev whole : List ℕ
+  whole = beforeEnd (drop from s)
+
+  abbrev pub Goes : List ℕ → ℕ → ℕ → Type 0
+  Goes line n i =
+      (n ≤ room + 1) × (length line ≡ room) × (i + length (beforeEnd (drop i s)) ≡ from + length whole)
+      × (counted room (n + length (beforeEnd (drop i s))) ≡ counted room (len + length whole)) × (sets line n (beforeEnd (drop i s)) ≡ sets line₀ len whole)
+
+  pub goes-start : (n : ℕ) → n ≡ counted room len → Goes line₀ n from
+  goes-start n e = rw e (counted-most room len, refl, refl, counted-more room len (length whole), counted-sets line₀ whole len)
+
+  pub goes-turn : (line line′ : List ℕ) (n n′ i : ℕ) → Goes line n i → i < length s → (getD s i 0 ≡ 0x0A → ⊥)
+      → n′ ≡ counted (length line) (n + 1) → line′ ≡ set line n (getD s i 0) → Goes line′ n′ (i + 1)
+  goes-turn line line′ n n′ i g h k p q =
+      let t : List ℕ = beforeEnd (drop (i + 1) s) in
+      let e : beforeEnd (drop i s) ≡ getD s i 0 ∷ t = rest-turn s i h k in
+      let p′ : n′ ≡ counted room (n + 1) = p ∙ ap (λ (m : ℕ). counted m (n + 1)) (g .1) in
+      let l : length (set line n (getD s i 0)) ≡ room = length-set line n (getD s i 0) ∙ g .1 in
+      let c : n + 1 + length t ≡ n + length (beforeEnd (drop i s)) = omega (arith, ap length e) in (
+        omega (arith, p′, counted-most room (n + 1)),
+        ap length q ∙ l,
+        omega (arith, g .2, ap length e),
+        ap (λ (m : ℕ). counted room (m + length t)) p′ ∙ counted-more room (n + 1) (length t) ∙ ap (counted room) c ∙ g .3,
+        ap₂ (λ (x : List ℕ) (m : ℕ). sets x m t) q (p′ ∙ ap (λ (m : ℕ). counted m (n + 1)) (sym l))
+            ∙ counted-sets (set line n (getD s i 0)) t (n + 1) ∙ ap (λ (m : ℕ). sets (set line n (getD s i 0)) m t) (add-one n)
+            ∙ ap (sets line n) (sym e) ∙ g .4,
+      )
+
+  -- nothing is left of the line
+  ended : (line : List ℕ) (n i : ℕ) → Goes line n i → beforeEnd (drop i s) ≡ []
+      → (i ≡ from + length whole) × (n ≡ counted room (len + length whole)) × (line ≡ sets line₀ len whole)
+  ended line n i g z = (
+    omega (arith, g .2, ap length z),
+    counted-told room n (g .0) ∙ ap (counted room) (sym (add-zero n)) ∙ ap (λ (l : List ℕ). counted room (n + length l)) (sym z) ∙ g .3,
+    ap (sets line n) (sym z) ∙ g .4,
+  )
+
+  module _ (line : List ℕ) (n i : ℕ) (g : Goes line n i) where
+    pub goes-line : i < length s → getD s i 0 ≡ 0x0A → (Line n (i + 1) ≡ takenOf s from room len) × (line ≡ sets line₀ len whole)
+    unfolding takenOf
+    goes-line h k =
+        let d = ended line n i g (rest-lf s i h k) in
+        (simp (← d .0, ← d .1, lt-ltb _ _ h), d .2)
+
+    pub goes-more : length s ≤ i → (More n ≡ takenOf s from room len) × (line ≡ sets line₀ len whole)
+    unfolding takenOf
+    goes-more h =
+        let d = ended line n i g (rest-none s i h) in
+        (simp (← d .0, ← d .1, le-ltb _ _ h), d .2)
+
+-- ---- what a caller's loop wants: a complete line ends behind the place where it went on, and within the block
+pub taken-further : (s : List ℕ) (from most len n next : ℕ) → takenOf s from most len ≡ Line n next → (from < next) × (next ≤ length s)
+unfolding takenOf
+taken-further s from most len n next e = by (ltb (from + length (beforeEnd (drop from s))) (length s)) refl
+  where
+    by : (t : Bool) → ltb (from + length (beforeEnd (drop from s))) (length s) ≡ t → (from < next) × (next ≤ length s)
+    by true t =
+        let h : from + length (beforeEnd (drop from s)) < length s = ltb-true _ _ t in
+        let q : next ≡ from + length (beforeEnd (drop from s)) + 1 = cc in
+        (omega arith, omega arith)
+    by false t = absurd (let z : _≡_ {A = ℕ} 0 1 = cc in omega arith)

@@ -1,0 +1,66 @@
+-- Laws of text put at a place: what fits and what not, and a turn of the loop over bytes. Assumes nothing.
+use mathlib.Core.Path.{_≡_, refl, sym, ap, _∙_}
+use mathlib.Core.Bool.{Bool, true, false}
+use mathlib.Core.List.{List, [], _∷_, _++_}
+use Prim.Native.Nat.{ℕ, _+_, _-_, _*_, _≤_, _<_}
+use native.Mathlib.Omega.{arith}
+use native.Mathlib.Numerals.{add-one}
+use borrow.Author.Tests.{leb-true, leb-false, le-leb, lt-leb}
+use lib.Dec.{leb}
+use lib.ListN.{length, drop, getD, length-append, drop-of-length-le}
+use lib.Seq.{sets, drop-cons}
+use Rattle.base.proofs.Sets.{sets-append}
+use Rattle.text.specs.Putting.{hexDigits, hexText, putAt, placeAfter}
+
+-- the room behind a place
+pub room-behind : (len at n : ℕ) → at ≤ len → leb n (len - at) ≡ leb (at + n) len
+room-behind len at n h = by (leb n (len - at)) refl
+  where
+    by : (t : Bool) → leb n (len - at) ≡ t → leb n (len - at) ≡ leb (at + n) len
+    by true e =
+        let k : n ≤ len - at = leb-true _ _ e in
+        e ∙ sym (le-leb (at + n) len (omega arith))
+    by false e =
+        let k : len - at < n = leb-false _ _ e in
+        e ∙ sym (lt-leb (at + n) len (omega arith))
+
+-- what a piece leaves, where it fits and where it does not
+module _ (buf : List ℕ) (at : ℕ) (text : List ℕ) where
+  abbrev pub Put : ℕ → List ℕ → Type 0
+  Put r out = (r ≡ placeAfter (length buf) at text) × (out ≡ putAt buf at text)
+
+  pub put-fits : (r : ℕ) (out : List ℕ) → leb (at + length text) (length buf) ≡ true → r ≡ at + length text → out ≡ sets buf at text → Put r out
+  unfolding putAt placeAfter
+  put-fits r out t p q = (rw t p, rw t q)
+
+  pub put-not : leb (at + length text) (length buf) ≡ false → Put at buf
+  unfolding putAt placeAfter
+  put-not t = (rw t, rw t)
+
+-- ---- bytes in hex
+pub digits-two : (b : ℕ) → length (hexDigits b) ≡ 2
+unfolding hexDigits
+digits-two b = refl
+
+pub text-length : (bs : List ℕ) → length (hexText bs) ≡ length bs * 2
+unfolding hexText
+text-length [] = refl
+text-length (b ∷ bs) = omega (arith, length-append (hexDigits b) (hexText bs), digits-two b, text-length bs)
+
+text-turn : (s : List ℕ) (i : ℕ) → i < length s → hexText (drop i s) ≡ hexDigits (getD s i 0) ++ hexText (drop (i + 1) s)
+unfolding hexText
+text-turn s i h = rw (drop-cons s i 0, add-one)
+
+pub text-end : (s : List ℕ) (i : ℕ) → length s ≤ i → hexText (drop i s) ≡ []
+unfolding hexText
+text-end s i h = rw drop-of-length-le
+
+pub text-place : (s : List ℕ) (i to n : ℕ) → i < length s → to + length (hexText (drop i s)) ≡ n → to + 2 + length (hexText (drop (i + 1) s)) ≡ n
+text-place s i to n h e =
+    omega (arith, e, ap length (text-turn s i h), length-append (hexDigits (getD s i 0)) (hexText (drop (i + 1) s)), digits-two (getD s i 0))
+
+pub text-contents : (s d e : List ℕ) (i to : ℕ) → i < length s → sets d to (hexText (drop i s)) ≡ e
+    → sets (sets d to (hexDigits (getD s i 0))) (to + 2) (hexText (drop (i + 1) s)) ≡ e
+text-contents s d e i to h p =
+    ap (λ (n : ℕ). sets (sets d to (hexDigits (getD s i 0))) (to + n) (hexText (drop (i + 1) s))) (sym (digits-two (getD s i 0)))
+    ∙ sym (sets-append d to (hexDigits (getD s i 0)) (hexText (drop (i + 1) s))) ∙ ap (sets d to) (sym (text-turn s i h)) ∙ p

@@ -1,0 +1,27 @@
+-- Text put at a place of a buffer: the whole of it where it fits, else nothing. Assumes nothing.
+use mathlib.Core.List.{List, [], _∷_, _++_}
+use Prim.Native.Nat.{ℕ, _+_, _/_, _%_}
+use lib.Dec.{leb, ltb}
+use lib.ListN.{length}
+use lib.Seq.{sets}
+use Rattle.base.specs.Choice.{choose}
+
+-- what the buffer then holds
+unfoldable pub putAt : List ℕ → ℕ → List ℕ → List ℕ
+putAt buf at text = choose (leb (at + length text) (length buf)) (sets buf at text) buf
+
+-- and the next place, in a buffer of n bytes
+unfoldable pub placeAfter : ℕ → ℕ → List ℕ → ℕ
+placeAfter n at text = choose (leb (at + length text) n) (at + length text) at
+
+-- a capital hex digit, and the two of a byte
+unfoldable pub digitOf : ℕ → ℕ
+digitOf n = choose (ltb n 10) (n + 0x30) (n + 0x37)
+
+unfoldable pub hexDigits : ℕ → List ℕ
+hexDigits b = digitOf (b / 16) ∷ digitOf (b % 16) ∷ []
+
+-- bytes in two digits each
+unfoldable pub hexText : List ℕ → List ℕ
+hexText [] = []
+hexText (b ∷ bs) = hexDigits b ++ hexText bs
