@@ -27,7 +27,16 @@ safe-read-requires c κs = search needs
 
 returns : tie.Need-returns
 unfolding readInvariants
-returns c = cc
+returns c =
+    rw (
+      c .safe-read .ensures,
+      c .before .word-field2 .ensures,
+      c .before .before .word-field .ensures,
+      c .before .before .before .byte-field2 .ensures,
+      c .before .before .before .before .byte-field .ensures,
+      c .before .before .before .before .before .sid-field2 .ensures .0,
+      c .before .before .before .before .before .before .sid-field .ensures .0,
+    )
 
 pub read-invariants-spec : {M : Type 1} → statement M
 read-invariants-spec =

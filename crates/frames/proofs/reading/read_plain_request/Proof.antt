@@ -22,7 +22,15 @@ plain-read-requires c κs = search needs
 
 returns : tie.Need-returns
 unfolding readPlainRequest
-returns c = simp (← (c .before .before .before .before .byte-field2 .ensures), c .before .if1 .taken) cc
+returns c =
+    rw (
+      c .plain-read .ensures,
+      c .before .before .byte-field4 .ensures,
+      c .before .before .before .byte-field3 .ensures,
+      c .before .before .before .before .before .byte-field .ensures,
+      ← (c .before .before .before .before .byte-field2 .ensures),
+      c .before .if1 .taken,
+    )
 
 cast-plain-read : tie.Need-cast-plain-read
 cast-plain-read c = search needs
@@ -35,7 +43,15 @@ plain-read-requires-2 c κs = search needs
 
 returns-2 : tie.Need-returns-2
 unfolding readPlainRequest
-returns-2 c = simp (← (c .before .before .before .before .before .byte-field2 .ensures), c .before .if2 .taken) cc
+returns-2 c =
+    rw (
+      c .plain-read2 .ensures,
+      c .before .before .before .byte-field4 .ensures,
+      c .before .before .before .before .byte-field3 .ensures,
+      c .before .before .before .before .before .before .byte-field .ensures,
+      ← (c .before .before .before .before .before .byte-field2 .ensures),
+      c .before .if2 .taken,
+    )
 
 returns-3 : tie.Need-returns-3
 unfolding readPlainRequest

@@ -37,7 +37,16 @@ plain-read-requires c κs = search needs
 
 returns : tie.Need-returns
 unfolding readPlainResponse
-returns c = simp (← (c .before .before .before .before .before .byte-field2 .ensures), c .before .before .if1 .taken) cc
+returns c =
+    rw (
+      c .plain-read .ensures,
+      c .before .byte-field5 .ensures,
+      c .before .before .before .byte-field4 .ensures,
+      c .before .before .before .before .byte-field3 .ensures,
+      c .before .before .before .before .before .before .byte-field .ensures,
+      ← (c .before .before .before .before .before .byte-field2 .ensures),
+      c .before .before .if1 .taken,
+    )
 
 plain-com-requires : tie.Need-plain-com-requires
 plain-com-requires c κs = search needs
@@ -54,7 +63,15 @@ plain-read-requires-2 c κs = search needs
 returns-2 : tie.Need-returns-2
 unfolding readPlainResponse
 returns-2 c =
-    simp (← (c .before .before .before .before .before .byte-field2 .ensures), ne-eqb _ _ (c .before .before .if1 .left)) cc
+    rw (
+      c .plain-read2 .ensures,
+      c .before .plain-com .ensures,
+      c .before .before .before .byte-field4 .ensures,
+      c .before .before .before .before .byte-field3 .ensures,
+      c .before .before .before .before .before .before .byte-field .ensures,
+      ← (c .before .before .before .before .before .byte-field2 .ensures),
+      ne-eqb _ _ (c .before .before .if1 .left),
+    )
 
 pub read-plain-response-spec : {M : Type 1} → statement M
 read-plain-response-spec =

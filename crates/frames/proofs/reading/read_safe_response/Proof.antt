@@ -48,7 +48,19 @@ safe-read-requires c κs = search needs
 
 returns : tie.Need-returns
 unfolding readSafeResponse
-returns c = cc
+returns c =
+    rw (
+      c .safe-read .ensures,
+      c .before .byte-field6 .ensures,
+      c .before .before .byte-field5 .ensures,
+      c .before .before .before .byte-field4 .ensures,
+      c .before .before .before .before .byte-field3 .ensures,
+      c .before .before .before .before .before .sid-field2 .ensures .0,
+      c .before .before .before .before .before .before .sid-field .ensures .0,
+      c .before .before .before .before .before .before .before .safe-com .ensures,
+      c .before .before .before .before .before .before .before .before .byte-field2 .ensures,
+      c .before .before .before .before .before .before .before .before .before .byte-field .ensures,
+    )
 
 pub read-safe-response-spec : {M : Type 1} → statement M
 read-safe-response-spec =

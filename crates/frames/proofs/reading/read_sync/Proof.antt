@@ -15,7 +15,12 @@ safe-read-requires c κs = search needs
 
 returns : tie.Need-returns
 unfolding readSync
-returns c = cc
+returns c =
+    rw (
+      c .safe-read .ensures,
+      c .before .byte-field .ensures,
+      c .before .before .sid-field .ensures .0,
+    )
 
 pub read-sync-spec : {M : Type 1} → statement M
 read-sync-spec =

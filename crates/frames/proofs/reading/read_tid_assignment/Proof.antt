@@ -18,7 +18,13 @@ plain-read-requires c κs = search needs
 
 returns : tie.Need-returns
 unfolding readTidAssignment
-returns c = cc
+returns c =
+    rw (
+      c .plain-read .ensures,
+      c .before .byte-field2 .ensures,
+      c .before .before .id-field .ensures,
+      c .before .before .before .byte-field .ensures,
+    )
 
 pub read-tid-assignment-spec : {M : Type 1} → statement M
 read-tid-assignment-spec =

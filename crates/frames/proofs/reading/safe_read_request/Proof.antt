@@ -27,7 +27,16 @@ safe-read-requires c κs = search needs
 
 returns : tie.Need-returns
 unfolding safeReadRequest
-returns c = cc
+returns c =
+    rw (
+      c .safe-read .ensures,
+      c .before .byte-field4 .ensures,
+      c .before .before .byte-field3 .ensures,
+      c .before .before .before .byte-field2 .ensures,
+      c .before .before .before .before .byte-field .ensures,
+      c .before .before .before .before .before .sid-field2 .ensures .0,
+      c .before .before .before .before .before .before .sid-field .ensures .0,
+    )
 
 pub safe-read-request-spec : {M : Type 1} → statement M
 safe-read-request-spec =

@@ -33,7 +33,16 @@ safe-read-requires c κs = search needs
 
 returns : tie.Need-returns
 unfolding safeWriteRequest
-returns c = cc
+returns c =
+    rw (
+      c .safe-read .ensures,
+      c .before .byte-field4 .ensures,
+      c .before .before .byte-field3 .ensures,
+      c .before .before .before .byte-field2 .ensures,
+      c .before .before .before .before .sid-field2 .ensures .0,
+      c .before .before .before .before .before .sid-field .ensures .0,
+      c .before .before .before .before .before .before .byte-field .ensures,
+    )
 
 pub safe-write-request-spec : {M : Type 1} → statement M
 safe-write-request-spec =

@@ -27,7 +27,16 @@ safe-read-requires c κs = search needs
 
 returns : tie.Need-returns
 unfolding sil4Assignment
-returns c = cc
+returns c =
+    rw (
+      c .safe-read .ensures,
+      c .before .sid-field4 .ensures .0,
+      c .before .before .sid-field3 .ensures .0,
+      c .before .before .before .sid-field2 .ensures .0,
+      c .before .before .before .before .id-field .ensures,
+      c .before .before .before .before .before .sec-field .ensures,
+      c .before .before .before .before .before .before .sid-field .ensures .0,
+    )
 
 pub sil4-assignment-spec : {M : Type 1} → statement M
 sil4-assignment-spec =
