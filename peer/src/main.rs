@@ -2,26 +2,36 @@
 //!
 //! - `peer answer crc|body|frame`: cases on standard input, answers on standard output
 //! - `peer cases crc|body|frame SEED COUNT`: seeded cases
+//! - `peer script`, `peer trace`: a script on standard input, what came of it on standard output
+//! - `peer scripts SEED COUNT`: a seeded script of so many lines
+//! - `peer census`: a script on standard input, how often what came up on standard output
 //! - `peer test`: self checks
 
 mod body;
 mod cases;
+mod census;
 mod check;
 mod crc;
 mod fields;
 mod frame;
 mod generate;
 mod hex;
+mod module;
 mod refusal;
+mod script;
 mod stuffing;
 mod vectors;
 
 use cases::Program;
-use std::io::{self, Read, Write};
+use std::io::{self, BufWriter, ErrorKind, Read, Write};
 use std::process::ExitCode;
 
 const USAGE: &str = "usage: peer answer crc|body|frame
        peer cases crc|body|frame SEED COUNT
+       peer script
+       peer trace
+       peer scripts SEED COUNT
+       peer census
        peer test
 ";
 
@@ -31,11 +41,17 @@ fn main() -> ExitCode {
     let outcome = match words[..] {
         ["answer", name] => Program::named(name).map(answer),
         ["cases", name, seed, count] => cases(name, seed, count),
+        ["script"] => Some(play(script::Program::Script)),
+        ["trace"] => Some(play(script::Program::Trace)),
+        ["scripts", seed, count] => scripts(seed, count),
+        ["census"] => Some(count()),
         ["test"] => Some(test()),
         _ => None,
     };
     match outcome {
         Some(Ok(code)) => code,
+        // Nobody reads on.
+        Some(Err(error)) if error.kind() == ErrorKind::BrokenPipe => ExitCode::SUCCESS,
         Some(Err(error)) => {
             eprintln!("peer: {error}");
             ExitCode::from(2)
@@ -50,7 +66,7 @@ fn main() -> ExitCode {
 fn answer(program: Program) -> io::Result<ExitCode> {
     let mut input = Vec::new();
     io::stdin().read_to_end(&mut input)?;
-    print(&cases::answer(program, &input))
+    print(cases::answer(program, &input))
 }
 
 /// `None` for words that are not a program and two numbers.
@@ -59,16 +75,34 @@ fn cases(name: &str, seed: &str, count: &str) -> Option<io::Result<ExitCode>> {
     let (seed, count) = (seed.parse().ok()?, count.parse().ok()?);
     let lines = generate::cases(program, seed, count);
     Some(print(
-        &lines
+        lines
             .iter()
             .map(|line| format!("{line}\n"))
             .collect::<String>(),
     ))
 }
 
+/// `None` for words that are not two numbers.
+fn scripts(seed: &str, count: &str) -> Option<io::Result<ExitCode>> {
+    let (seed, count) = (seed.parse().ok()?, count.parse().ok()?);
+    Some(print(generate::script(seed, count)))
+}
+
+fn play(program: script::Program) -> io::Result<ExitCode> {
+    let output = BufWriter::new(io::stdout().lock());
+    script::run(program, io::stdin().lock(), output)?;
+    Ok(ExitCode::SUCCESS)
+}
+
+fn count() -> io::Result<ExitCode> {
+    let mut script = Vec::new();
+    io::stdin().read_to_end(&mut script)?;
+    print(census::of(&script).to_string())
+}
+
 fn test() -> io::Result<ExitCode> {
     let tally = check::run();
-    print(&format!(
+    print(format!(
         "{} passed, {} failed\n",
         tally.passed, tally.failed
     ))?;
@@ -78,7 +112,7 @@ fn test() -> io::Result<ExitCode> {
     })
 }
 
-fn print(text: &str) -> io::Result<ExitCode> {
-    io::stdout().write_all(text.as_bytes())?;
+fn print(text: impl AsRef<[u8]>) -> io::Result<ExitCode> {
+    io::stdout().write_all(text.as_ref())?;
     Ok(ExitCode::SUCCESS)
 }

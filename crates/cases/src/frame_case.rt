@@ -1,6 +1,7 @@
 // A frame that is read from a body, or written from its fields.
 use crate::answers;
-use crate::frame_fields;
+use crate::fields_in;
+use crate::fields_out;
 use frames::kinds;
 use frames::kinds::Frame;
 use frames::reading;
@@ -15,28 +16,36 @@ fn data_place(f: Frame) -> usize {
     if kinds::is_safe(f) { 12 } else { 5 }
 }
 
-// Number, address, kind, fields and data of a frame that was taken.
-fn put_taken(out: &mut [u8], addr: u8, f: Frame, bytes: &[u8]) -> usize {
-    let a = putting::put_byte(out, 0, 0);
-    let b = putting::put_byte(out, a, addr);
-    let n = frame_fields::put_frame(out, b, f);
+// Document 01's number.
+fn number(reading: Reading) -> u8 {
+    match reading {
+        Reading::Taken(_, _) => 0,
+        Reading::Length => 1,
+        Reading::Stuffing => 2,
+        Reading::Size => 3,
+        Reading::Fcs => 4,
+        Reading::Reserved => 5,
+        Reading::Kind => 7,
+        Reading::Form => 8,
+        Reading::Check => 9,
+    }
+}
+
+// Address, kind, fields and data of a frame that was taken.
+fn put_taken(out: &mut [u8], at: usize, addr: u8, f: Frame, bytes: &[u8]) -> usize {
+    let a = putting::put_byte(out, at, addr);
+    let n = fields_out::put_frame(out, a, f);
     answers::put_part(out, n, bytes, data_place(f), kinds::data_len(f))
 }
 
 fn put_received(out: &mut [u8], r: Received) -> usize {
     let reading = r.reading;
     let bytes = r.bytes;
-    match reading {
-        Reading::Taken(addr, f) => put_taken(out, addr, f, &bytes),
-        Reading::Length => putting::put_byte(out, 0, 1),
-        Reading::Stuffing => putting::put_byte(out, 0, 2),
-        Reading::Size => putting::put_byte(out, 0, 3),
-        Reading::Fcs => putting::put_byte(out, 0, 4),
-        Reading::Reserved => putting::put_byte(out, 0, 5),
-        Reading::Kind => putting::put_byte(out, 0, 7),
-        Reading::Form => putting::put_byte(out, 0, 8),
-        Reading::Check => putting::put_byte(out, 0, 9),
-    }
+    let at = putting::put_byte(out, 0, number(reading));
+    let Reading::Taken(addr, f) = reading else {
+        return at;
+    };
+    put_taken(out, at, addr, f, &bytes)
 }
 
 // Written into the first `room` bytes of a buffer.
@@ -57,10 +66,10 @@ fn write(case: &[u8], out: &mut [u8]) -> usize {
     if answers::MOST < room {
         return answers::bad(out);
     }
-    if frame_fields::LAST_KIND < kind {
+    if fields_in::LAST_KIND < kind {
         return answers::bad(out);
     }
-    let from = 5 + frame_fields::fields_len(kind);
+    let from = 5 + fields_in::fields_len(kind);
     if case.len() < from {
         return answers::bad(out);
     }
@@ -69,7 +78,7 @@ fn write(case: &[u8], out: &mut [u8]) -> usize {
         &mut buf,
         room,
         case[3],
-        frame_fields::frame_of(kind, &case[5..]),
+        fields_in::frame_of(kind, &case[5..]),
         &case[from..],
     );
     answers::put_laid(out, laid, &buf, room)

@@ -2,8 +2,9 @@
 mod answers;
 mod body_case;
 mod crc_case;
+mod fields_in;
+mod fields_out;
 mod frame_case;
-mod frame_fields;
 mod running;
 
 pub use running::Cases;

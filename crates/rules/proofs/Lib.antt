@@ -1,3 +1,4 @@
+pub mod BusTraps
 pub mod TakenFits
 pub mod Parts
 pub mod Recorded
@@ -18,4 +19,3 @@ pub mod GoodNext
 pub mod GoodStart
 pub mod NeverUnsound
 pub mod GoodFacts
-pub mod Traps

@@ -143,3 +143,15 @@ read-bytes (some bs) buf out n r e h f = by r f
         let same : out ≡ sets buf 0 bs = cc in
         (rw k (ap Bytes q), rw k (same ∙ sets-front buf bs fits))
     by false g = absurd (let z : _≡_ {A = ℕ} 0 1 = cc in omega arith)
+
+-- ---- what a caller wants: the bytes that were read are within the room
+pub read-within : (m n : ℕ) (o : Option (List ℕ)) → Bytes n ≡ hexOf m o → n ≤ m
+read-within m n none e = never _ _ e (λ d. cc)
+read-within m n (some bs) e = by (ltb m (length bs)) refl
+  where
+    by : (t : Bool) → ltb m (length bs) ≡ t → n ≤ m
+    by true k = never _ _ (rw k at e) (λ d. cc)
+    by false k =
+        let f : Bytes n ≡ Bytes (length bs) = rw k at e in
+        let q : n ≡ length bs = cc in
+        omega (arith, ltb-false m (length bs) k)

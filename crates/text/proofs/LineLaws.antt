@@ -38,23 +38,23 @@ counted-most room n = counted-cases (λ k. k ≤ room + 1) room n (λ h. omega a
 counted-told : (room n : ℕ) → n ≤ room + 1 → n ≡ counted room n
 counted-told room n h = counted-cases (λ k. n ≡ k) room n (λ p. omega arith) (λ p. refl)
 
-counted-more : (room n k : ℕ) → counted room (counted room n + k) ≡ counted room (n + k)
+pub counted-more : (room n k : ℕ) → counted room (counted room n + k) ≡ counted room (n + k)
 counted-more room n k =
     counted-cases (λ m. counted room (m + k) ≡ counted room (n + k)) room n
     (λ h. sym (counted-past room (room + 1 + k) (omega arith)) ∙ counted-past room (n + k) (omega arith)) (λ h. refl)
 
 -- and nothing is stored behind it
-counted-sets : (l vs : List ℕ) (n : ℕ) → sets l (counted (length l) n) vs ≡ sets l n vs
+pub counted-sets : (l vs : List ℕ) (n : ℕ) → sets l (counted (length l) n) vs ≡ sets l n vs
 counted-sets l vs n =
     counted-cases (λ m. sets l m vs ≡ sets l n vs) (length l) n
     (λ h. sets-past l (length l + 1) vs (omega arith) ∙ sym (sets-past l n vs (omega arith))) (λ h. refl)
 
 -- ---- where a line ends
-end-other : (c : ℕ) (cs : List ℕ) → (c ≡ 0x0A → ⊥) → beforeEnd (c ∷ cs) ≡ c ∷ beforeEnd cs
+pub end-other : (c : ℕ) (cs : List ℕ) → (c ≡ 0x0A → ⊥) → beforeEnd (c ∷ cs) ≡ c ∷ beforeEnd cs
 unfolding beforeEnd
 end-other c cs n = simp (ne-eqb _ _ n)
 
-end-lf : (c : ℕ) (cs : List ℕ) → c ≡ 0x0A → beforeEnd (c ∷ cs) ≡ []
+pub end-lf : (c : ℕ) (cs : List ℕ) → c ≡ 0x0A → beforeEnd (c ∷ cs) ≡ []
 unfolding beforeEnd
 end-lf c cs e = simp (eq-eqb _ _ e)
 

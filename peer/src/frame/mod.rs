@@ -3,7 +3,7 @@
 mod reading;
 mod writing;
 
-pub use reading::{read, Received};
+pub use reading::{check_crc, form, read, Received};
 pub use writing::{content, seal, write};
 
 pub const BROADCAST: u8 = 0xFF;

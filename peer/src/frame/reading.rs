@@ -1,7 +1,7 @@
 //! Reading a frame from a body: numbers 1 to 5 by the body, then 7 (TYP), 8 (form), 9 (safety CRC).
 
 use super::*;
-use crate::body;
+use crate::body::{self, Body};
 use crate::crc::{self, crc};
 use crate::fields::Reader;
 use crate::refusal::Refusal;
@@ -15,24 +15,39 @@ pub struct Received {
 
 pub fn read(received: &[u8]) -> Result<Received, Refusal> {
     let body = body::read(received)?;
-    let safe = safe(body.application[0]).ok_or(Refusal::UnknownTyp)?;
-    // A body has at least four bytes of application data, so two can always be set apart.
-    let crc_length = if safe { 2 } else { 0 };
-    let (content, tail) = body
-        .application
-        .split_at(body.application.len() - crc_length);
-    let (frame, data) = parse(content).ok_or(Refusal::Form)?;
-    if matches!(frame, Frame::Sync { .. }) && body.address != BROADCAST {
-        return Err(Refusal::Form);
-    }
-    if safe && tail != crc(crc::SAFETY, content).to_be_bytes() {
-        return Err(Refusal::SafetyCrc);
-    }
+    let (frame, data) = form(&body)?;
+    check_crc(&body)?;
     Ok(Received {
         address: body.address,
         frame,
         data: data.to_vec(),
     })
+}
+
+/// The frame and its data, its safety CRC not yet looked at: numbers 7 and 8.
+pub fn form(body: &Body) -> Result<(Frame, &[u8]), Refusal> {
+    let (content, _) = parts(body).ok_or(Refusal::UnknownTyp)?;
+    let (frame, data) = parse(content).ok_or(Refusal::Form)?;
+    if matches!(frame, Frame::Sync { .. }) && body.address != BROADCAST {
+        return Err(Refusal::Form);
+    }
+    Ok((frame, data))
+}
+
+/// Numbers 7 and 9.
+pub fn check_crc(body: &Body) -> Result<(), Refusal> {
+    let (content, tail) = parts(body).ok_or(Refusal::UnknownTyp)?;
+    let right = tail.is_empty() || tail == crc(crc::SAFETY, content).to_be_bytes();
+    right.then_some(()).ok_or(Refusal::SafetyCrc)
+}
+
+/// The content and the place of the safety CRC, which is empty for a TYP without one;
+/// `None` for a TYP that is not built.
+fn parts(body: &Body) -> Option<(&[u8], &[u8])> {
+    let application = &body.application;
+    // A body has at least four bytes of application data, so two can always be set apart.
+    let crc_length = if safe(application[0])? { 2 } else { 0 };
+    Some(application.split_at(application.len() - crc_length))
 }
 
 /// The frame and its data; `None` if the length or COM is wrong for the TYP.

@@ -1,17 +1,21 @@
-//! Seeded cases for the case programs: a fixed list of what must come up, then any.
+//! Seeded cases for the case programs (a fixed list of what must come up, then any), and scripts.
 
 mod bad;
 mod body_laying;
 mod body_reading;
 mod crc;
 mod damage;
-mod draft;
+pub mod draft;
 mod frame_faults;
 mod frame_reading;
 mod frame_writing;
 mod line;
 pub mod random;
 pub mod sample;
+mod script;
+pub mod speech;
+
+pub use script::script;
 
 use crate::cases::Program;
 use random::Random;

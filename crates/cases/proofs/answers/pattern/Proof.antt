@@ -1,8 +1,7 @@
 -- `answers::pattern` is safe and ends. Assumes nothing.
 use mathlib.Core.Path.{_≡_, refl}
 use Prim.Native.Nat.{_-_}
-use native.Mathlib.Omega.{arith}
-use lib.ListN.{length, length-set}
+use lib.ListN.{length}
 use borrow.Author.Needs.{needs}
 use Rattle.cases.proofs.answers.pattern.Statement.{statement}
 use Rattle.cases.proofs.answers.pattern.Tie as tie

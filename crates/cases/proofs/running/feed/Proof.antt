@@ -1,6 +1,6 @@
 -- `running::feed` is safe and ends: each complete line ends behind the place where it began. Assumes nothing.
 use mathlib.Core.Path.{_≡_, refl, sym, _∙_}
-use Prim.Native.Nat.{_-_, _≤_}
+use Prim.Native.Nat.{_-_}
 use native.Mathlib.Omega.{arith}
 use lib.ListN.{length}
 use Rattle.text.proofs.LineLaws.{taken-further}

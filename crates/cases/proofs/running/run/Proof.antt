@@ -1,5 +1,5 @@
 -- `running::run` is safe and ends: the turns are counted down. Assumes nothing.
-use mathlib.Core.Path.{_≡_, sym, ap, _∙_}
+use mathlib.Core.Path.{_≡_}
 use lib.ListN.{length}
 use borrow.Author.Needs.{needs}
 use Rattle.cases.proofs.running.run.Statement.{statement}

@@ -1,4 +1,12 @@
-//! Self checks: stored vectors, published and proved values, and round trips of every kind.
+//! Self checks: stored vectors, published and proved values, round trips of every kind, the
+//! cases on the bench, what the host may do wrong, the traps, and the script program.
+
+mod bench;
+mod host;
+mod module;
+mod rules;
+mod script;
+mod traps;
 
 use crate::body;
 use crate::cases::KINDS;
@@ -32,6 +40,11 @@ pub fn run() -> Tally {
     crc_vectors(&mut tally);
     published(&mut tally);
     stuffing_cases(&mut tally);
+    bench::run(&mut tally);
+    traps::run(&mut tally);
+    rules::run(&mut tally);
+    host::run(&mut tally);
+    script::run(&mut tally);
     let random = &mut Random::new(7);
     for kind in 0..KINDS {
         for datl in [0, 1, 2, 7, 30, 253, 254] {

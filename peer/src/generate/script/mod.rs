@@ -1,0 +1,106 @@
+//! Seeded scripts: scenes on a stage whose module plays along.
+
+mod cycles;
+mod faults;
+mod floods;
+mod lines;
+mod manners;
+mod marks;
+mod names;
+mod opening;
+mod pairs;
+mod reads;
+mod settings;
+mod silences;
+mod spans;
+mod stage;
+mod takeover;
+mod turns;
+
+use stage::Stage;
+
+type Scene = fn(&mut Stage);
+
+/// The scenes and how often each is in a deck.
+const SCENES: [(Scene, usize); 41] = [
+    (cycles::steady, 4),
+    (cycles::wrap, 2),
+    (takeover::in_run, 5),
+    (takeover::in_fallback, 2),
+    (takeover::round, 1),
+    (settings::change, 3),
+    (settings::refused, 2),
+    (settings::references, 3),
+    (settings::shorter, 1),
+    (silences::sync, 3),
+    (silences::outputs, 5),
+    (silences::pending_release, 3),
+    (silences::after_refusal, 2),
+    (silences::long, 2),
+    (spans::edges, 6),
+    (spans::outside, 2),
+    (spans::release_values, 3),
+    (reads::edges, 4),
+    (reads::statut, 3),
+    (floods::full_cycle, 1),
+    (turns::cycle, 3),
+    (turns::repeats, 3),
+    (turns::order, 3),
+    (turns::sync, 4),
+    (turns::echo, 3),
+    (names::tids, 3),
+    (names::sids, 11),
+    (faults::line, 8),
+    (faults::addresses, 6),
+    (faults::typs, 3),
+    (faults::lengths, 5),
+    (faults::forms, 4),
+    (faults::crcs, 7),
+    (faults::sources, 4),
+    (faults::identities, 4),
+    (faults::changed, 3),
+    (pairs::outer, 3),
+    (pairs::requests, 3),
+    (pairs::others, 2),
+    (marks::counters, 2),
+    (marks::silent, 3),
+];
+
+/// Lines that are no frames, also in every deck.
+const LINE_SCENES: [(Scene, usize); 3] = [(lines::bad, 5), (lines::long, 1), (lines::ports, 8)];
+
+/// Long scenes, each played once, when so many hundredths of the script are done.
+const ONCE: [(usize, Scene); 2] = [(40, cycles::marathon), (60, lines::huge)];
+
+/// A script of so many lines from power-up.
+pub fn script(seed: u64, count: usize) -> Vec<u8> {
+    let mut stage = Stage::new(seed);
+    opening::play(&mut stage);
+    let mut deck = Vec::new();
+    let mut once = ONCE.to_vec();
+    while stage.length() < count {
+        let done = 100 * stage.length() / count;
+        // All eight concentrators are there when a fifth of the script is done.
+        names::record_up_to(&mut stage, 1 + done * 8 / 20);
+        if let Some(&(start, scene)) = once.first() {
+            if done >= start {
+                once.remove(0);
+                scene(&mut stage);
+            }
+        }
+        draw(&mut deck, &mut stage)(&mut stage);
+        settings::tidy(&mut stage);
+    }
+    stage.text(count)
+}
+
+/// The next scene of a shuffled deck, a new one when it is used up.
+fn draw(deck: &mut Vec<Scene>, stage: &mut Stage) -> Scene {
+    if deck.is_empty() {
+        for (scene, times) in SCENES.into_iter().chain(LINE_SCENES) {
+            deck.extend(vec![scene; times]);
+        }
+        stage.random.shuffle(deck);
+    }
+    deck.pop().expect("a new deck has scenes")
+}

@@ -1,0 +1,128 @@
+//! The stage of a script: its lines so far, and a module that plays along, so that every
+//! scene knows what state it has reached.
+
+use super::super::draft::Draft;
+use super::super::line::recase;
+use super::super::random::Random;
+use super::super::sample;
+use crate::hex;
+use crate::module::registers::Registers;
+use crate::module::Agent;
+use crate::script::{Player, TICKS_MAX};
+use std::collections::HashMap;
+
+/// So many bodies are kept, to be said again later.
+const MEMORY: usize = 200;
+
+pub struct Stage {
+    pub random: Random,
+    /// Where each list that is gone through in turn stands.
+    turns: HashMap<&'static str, usize>,
+    player: Player,
+    lines: Vec<Vec<u8>>,
+    said: Vec<Vec<u8>>,
+}
+
+impl Stage {
+    pub fn new(seed: u64) -> Stage {
+        Stage {
+            random: Random::new(seed),
+            turns: HashMap::new(),
+            player: Player::power_up(),
+            lines: Vec::new(),
+            said: Vec::new(),
+        }
+    }
+
+    pub fn agent(&self) -> &Agent {
+        &self.player.agent
+    }
+
+    pub fn registers(&self) -> &Registers {
+        &self.player.agent.registers
+    }
+
+    pub fn length(&self) -> usize {
+        self.lines.len()
+    }
+
+    /// The first lines as one text. Now and then the last one has no LF.
+    pub fn text(mut self, count: usize) -> Vec<u8> {
+        self.lines.truncate(count);
+        let mut text = self.lines.join(&b'\n');
+        if !text.is_empty() && self.random.one_in(2) {
+            text.push(b'\n');
+        }
+        text
+    }
+
+    /// Tells the answer; `None` for a BAD line.
+    pub fn line(&mut self, line: Vec<u8>) -> Option<u8> {
+        let played = self.player.play(&line);
+        self.lines.push(line);
+        played.map(|played| played.answer)
+    }
+
+    /// In as many lines as need be; none for no tick.
+    pub fn ticks(&mut self, count: u32) {
+        let mut left = count;
+        while left > 0 {
+            let now = left.min(TICKS_MAX);
+            self.line(format!("T {now}").into_bytes());
+            left -= now;
+        }
+    }
+
+    pub fn inputs(&mut self) {
+        let inputs = hex::encode(&sample::bytes(&mut self.random, 64));
+        let line = "I ".to_string() + &recase(&mut self.random, inputs);
+        self.line(line.into_bytes());
+    }
+
+    pub fn say_on(&mut self, port: u8, body: &[u8]) -> u8 {
+        let digits = recase(&mut self.random, hex::encode(body));
+        let line = format!("{port} {digits}").into_bytes();
+        self.remember(body);
+        self.line(line).unwrap_or(0)
+    }
+
+    /// On one port or the other.
+    pub fn say(&mut self, body: &[u8]) -> u8 {
+        let port = self.random.pick(&[1, 2]);
+        self.say_on(port, body)
+    }
+
+    /// On one port, and then now and then on the other, as on a ring.
+    pub fn send(&mut self, draft: &Draft) -> u8 {
+        let (first, second) = self.random.pick(&[(1, 2), (2, 1)]);
+        let body = draft.body();
+        let number = self.say_on(first, &body);
+        if self.random.one_in(5) {
+            self.say_on(second, &body);
+        }
+        number
+    }
+
+    /// The next of a list that is gone through from any start, again and again.
+    pub fn next_of<T: Copy>(&mut self, name: &'static str, list: &[T]) -> T {
+        let start = self.random.below(list.len());
+        let turn = self.turns.entry(name).or_insert(start);
+        *turn = (*turn + 1) % list.len();
+        list[*turn]
+    }
+
+    fn remember(&mut self, body: &[u8]) {
+        if self.said.len() == MEMORY {
+            self.said.remove(0);
+        }
+        self.said.push(body.to_vec());
+    }
+
+    /// One of the last bodies again, on any port. There must be one.
+    pub fn echo(&mut self) {
+        let span = self.random.pick(&[3, 12, MEMORY]).min(self.said.len());
+        let back = 1 + self.random.below(span);
+        let body = self.said[self.said.len() - back].clone();
+        self.say(&body);
+    }
+}

@@ -1,0 +1,27 @@
+//! The two modes and the ways between them.
+
+use super::registers::{HOLD, OUTPUTS, OUT_REP, REP, STATUT};
+use super::Agent;
+
+#[derive(Clone, Copy, Debug, PartialEq, Eq)]
+pub enum Mode {
+    Fallback,
+    Run,
+}
+
+impl Agent {
+    /// Also in fallback: then it takes back a release that is pending.
+    pub(super) fn enter_fallback(&mut self) {
+        self.mode = Mode::Fallback;
+        self.registers.bytes[OUTPUTS].fill(0);
+        self.registers[OUT_REP] = HOLD;
+        self.registers[STATUT] |= REP;
+        self.since_output = 0;
+    }
+
+    pub(super) fn enter_run(&mut self) {
+        self.mode = Mode::Run;
+        self.registers[STATUT] &= !REP;
+        self.since_output = 0;
+    }
+}
