@@ -1,0 +1,23 @@
+-- In a sound state there is room for one more in e and q. Assumes nothing.
+use mathlib.Core.Path.{_≡_}
+use mathlib.Core.Bool.{true}
+use mathlib.Core.Logic.{⊎-elim}
+use Prim.Native.Nat.{_<_}
+use native.Mathlib.Omega.{arith}
+use Rattle.base.proofs.Products.{product-most}
+use Rattle.rules.proofs.SoundParts.{parts}
+use Rattle.rules.specs.Sound.{sound}
+use Rattle.rules.specs.State.{tOf, mOf}
+use Rattle.rules.specs.declared.Agent.{Agent}
+
+pub elapsed-room : (a : Agent) → sound a ≡ true → a .elapsed < 255
+elapsed-room a s = omega (arith, parts a s .e-most)
+
+-- in RUN q is below m × t, in fallback 0
+pub idle-room : (a : Agent) → sound a ≡ true → mOf a < 256 → tOf a < 256 → a .idle < 65535
+idle-room a s hm ht =
+    let p = parts a s .by-mode in
+    ⊎-elim
+    (λ e. omega (arith, p .in-run e .q-below, product-most (mOf a) (tOf a) hm ht))
+    (λ e. omega (arith, p .in-fallback e .q-zero))
+    (p .mode-is)

@@ -1,0 +1,55 @@
+-- Soundness, part by part, from what the tests of each part came to. Assumes nothing.
+use mathlib.Core.Path.{_≡_, refl, sym, ap, _∙_}
+use mathlib.Core.Bool.{Bool, true, false, not, _&&_, _||_, Bool·beq}
+use mathlib.Core.List.{List}
+use Prim.Native.Nat.{ℕ, _+_, _*_, _≤_, _<_}
+use native.Mathlib.Numerals.{add-one}
+use borrow.Author.Tests.{le-leb, lt-leb}
+use lib.Bits.{bitAnd}
+use lib.Dec.{eqb, leb, ltb}
+use lib.ListN.{getD}
+use Rattle.rules.specs.Fallback.{released}
+use Rattle.rules.specs.Registers.{outRep, statut, outputsAt}
+use Rattle.rules.specs.Requests.{mostTaken}
+use Rattle.rules.specs.Sound.{settingsSound, sourcesSound, countersSound, outputsZero, runSound, fallbackSound, sound}
+use Rattle.rules.specs.Sources.{distinct, below24, isRecorded, sidOf}
+use Rattle.rules.specs.State.{inRun, inFallback, isHeard, unheard, nobody, reg, tOf, nOf, mOf}
+use Rattle.rules.specs.declared.Agent.{Agent}
+
+pub sources-law : (a : Agent) (apart below : Bool) (sid : ℕ) → a .count ≤ 8 → apart ≡ distinct (a .known) (a .count) → below ≡ below24 (a .known) (a .count) → sid ≡ sidOf a
+    → (apart && below && Bool·beq (eqb (a .count) 0) (eqb sid nobody)) ≡ sourcesSound a
+unfolding sourcesSound
+sources-law a apart below sid h p q r = rw (le-leb (a .count) 8 h, p, q, r)
+
+pub sources-many : (a : Agent) → 8 < a .count → false ≡ sourcesSound a
+unfolding sourcesSound
+sources-many a h = rw (lt-leb (a .count) 8 h)
+
+pub counters-law : (a : Agent) (known : Bool) → known ≡ isRecorded a (a .last)
+    → (leb (a .taken) mostTaken && leb (a .elapsed) 254 && (known || (eqb (a .last) nobody && eqb (a .heard) unheard)) && (eqb (a .heard) isHeard || eqb (a .heard) unheard)) ≡ countersSound a
+unfolding countersSound
+counters-law a known p = rw p
+
+pub outputs-none : (r : List ℕ) → true ≡ outputsZero r 0
+unfolding outputsZero
+outputs-none r = refl
+
+pub outputs-turn : (r : List ℕ) (n : ℕ) (b : Bool) → b ≡ outputsZero r n → (b && eqb (getD r (outputsAt + n) 0) 0) ≡ outputsZero r (n + 1)
+unfolding outputsZero
+outputs-turn r n b p =
+    ap (λ (c : Bool). c && eqb (getD r (outputsAt + n) 0) 0) p ∙ ap (outputsZero r) (sym (add-one n))
+
+pub run-law : (a : Agent) (n m : ℕ) → n ≡ nOf a * tOf a → m ≡ mOf a * tOf a
+    → (eqb (a .mode) inRun && eqb (bitAnd (reg a statut) 0xC0) 0x00 && eqb (reg a outRep) released && ltb (a .silence) n && ltb (a .idle) m && not (eqb (a .last) nobody)) ≡ runSound a
+unfolding runSound
+run-law a n m p q = rw (p, q)
+
+pub fallback-law : (a : Agent) (zero : Bool) → zero ≡ outputsZero (a .regs) 64
+    → (eqb (a .mode) inFallback && eqb (bitAnd (reg a statut) 0xC0) 0x80 && eqb (a .idle) 0 && zero) ≡ fallbackSound a
+unfolding fallbackSound
+fallback-law a zero p = rw p
+
+pub sound-law : (a : Agent) (settings sources counters run fallback : Bool) → settings ≡ settingsSound a → sources ≡ sourcesSound a → counters ≡ countersSound a
+    → run ≡ runSound a → fallback ≡ fallbackSound a → (settings && sources && counters && (run || fallback)) ≡ sound a
+unfolding sound
+sound-law a settings sources counters run fallback p q r s t = rw (p, q, r, s, t)

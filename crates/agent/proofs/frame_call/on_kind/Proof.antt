@@ -1,0 +1,122 @@
+-- `frame_call::on_kind` meets its contract: each kind. Assumes nothing.
+use mathlib.Core.Path.{_∙_}
+use native.Mathlib.Omega.{arith}
+use lib.ListN.{length-take, length-drop}
+use borrow.Author.Needs.{needs}
+use Rattle.agent.proofs.WholeLaws.{write-asked, not-served}
+use Rattle.agent.proofs.frame_call.on_kind.Statement.{statement}
+use Rattle.agent.proofs.frame_call.on_kind.Tie as tie
+
+enum-known-f : tie.Need-enum-known-f
+enum-known-f c = search needs
+
+on-sync-requires : tie.Need-on-sync-requires
+on-sync-requires c κs = rw (c .before .f .given .1) at (c .before .before .before .before .pre .0)
+
+enum-known-f-2 : tie.Need-enum-known-f-2
+enum-known-f-2 c = search needs
+
+on-request-requires : tie.Need-on-request-requires
+on-request-requires c κs = let s = c .before .before .before .before in (rw (c .before .f2 .given .1) at (s .pre .0), s .pre .1)
+
+enum-known-f-3 : tie.Need-enum-known-f-3
+enum-known-f-3 c = search needs
+
+cast-to : tie.Need-cast-to
+cast-to c = search needs
+
+add-to : tie.Need-add-to
+add-to c = search needs
+
+sub-on-request : tie.Need-sub-on-request
+sub-on-request c = search needs
+
+part-on-request-start : tie.Need-part-on-request-start
+part-on-request-start c = search needs
+
+part-on-request-end : tie.Need-part-on-request-end
+part-on-request-end c = (rw (c .before .f3 .given .1) at (c .before .before .before .before .pre .0)) .1
+
+on-request-requires-2 : tie.Need-on-request-requires-2
+on-request-requires-2 c κs =
+    let s = c .before .before .before .before .before in
+    let w = rw (c .before .before .f3 .given .1) at (s .pre .0) in
+    (w .0, simp (length-take, length-drop) (omega (arith, s .pre .1)))
+
+enum-known-f-4 : tie.Need-enum-known-f-4
+enum-known-f-4 c = search needs
+
+on-tid-requires : tie.Need-on-tid-requires
+on-tid-requires c κs = search needs
+
+enum-known-f-5 : tie.Need-enum-known-f-5
+enum-known-f-5 c = search needs
+
+on-sid-requires : tie.Need-on-sid-requires
+on-sid-requires c κs = rw (c .before .f5 .given .1) at (c .before .before .before .before .pre .0)
+
+enum-told : tie.Need-enum-told
+enum-told c = search needs
+
+does-requires : tie.Need-does-requires
+does-requires c κs = search needs
+
+does-requires-2 : tie.Need-does-requires-2
+does-requires-2 c κs = search needs
+
+returns : tie.Need-returns
+returns c = (rw (c .before .before .f .given .1) (c .on-sync .ensures .0), c .on-sync .ensures .1)
+
+returns-2 : tie.Need-returns-2
+returns-2 c = (rw (c .before .before .f2 .given .1) (c .on-request .ensures .0), c .on-request .ensures .1)
+
+returns-3 : tie.Need-returns-3
+returns-3 c =
+    let a = c .before .before .before .before .before .before .args in
+    let v = c .before .before .before .f3 .given .0 in (
+      rw (c .before .before .before .f3 .given .1)
+          (write-asked (a .port) (a .a) (a .s .now) (v .0) (v .1 .0) (v .1 .1 .0) (v .1 .1 .1 .0) (v .1 .1 .1 .1 .0) _ _ (c .on-request2 .ensures .0)),
+      c .on-request2 .ensures .1,
+    )
+
+returns-4 : tie.Need-returns-4
+returns-4 c = (rw (c .before .before .f4 .given .1) (c .on-tid .ensures .0), c .on-tid .ensures .1)
+
+returns-5 : tie.Need-returns-5
+returns-5 c = (rw (c .before .before .f5 .given .1) (c .on-sid .ensures .0), c .on-sid .ensures .1)
+
+returns-6 : tie.Need-returns-6
+returns-6 c = (rw (c .before .enum-told .given .1) (c .does .ensures .0), c .does .ensures .1)
+
+returns-7 : tie.Need-returns-7
+returns-7 c = let a = c .before .before .before .args in (c .does2 .ensures .0 ∙ not-served (a .port) (a .a) (a .s .now) (a .f) (c .before .match .keys7), c .does2 .ensures .1)
+
+pub on-kind-spec : {M : Type 1} → statement M
+on-kind-spec =
+    tie.close
+    (tie.spec
+    enum-known-f
+    on-sync-requires
+    enum-known-f-2
+    on-request-requires
+    enum-known-f-3
+    cast-to
+    add-to
+    sub-on-request
+    part-on-request-start
+    part-on-request-end
+    on-request-requires-2
+    enum-known-f-4
+    on-tid-requires
+    enum-known-f-5
+    on-sid-requires
+    enum-told
+    does-requires
+    does-requires-2
+    returns
+    returns-2
+    returns-3
+    returns-4
+    returns-5
+    returns-6
+    returns-7)

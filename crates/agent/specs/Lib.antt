@@ -1,0 +1,4 @@
+pub mod Fitting
+pub mod Asks
+pub mod Whole
+pub mod Handling

@@ -1,0 +1,44 @@
+// Document 01, "Who causes which number": the answers by name.
+pub const ACCEPTED: u8 = 0;
+
+pub const BODY_LENGTH: u8 = 1;
+
+pub const STUFFING: u8 = 2;
+
+pub const UNSTUFFED_LENGTH: u8 = 3;
+
+pub const FCS: u8 = 4;
+
+pub const RESERVED: u8 = 5;
+
+pub const ELSEWHERE: u8 = 6;
+
+pub const TYP: u8 = 7;
+
+pub const FORM: u8 = 8;
+
+pub const CRC: u8 = 9;
+
+pub const SOURCE: u8 = 10;
+
+pub const ADDRESSEE: u8 = 11;
+
+pub const CYCLE: u8 = 12;
+
+pub const REPEAT: u8 = 13;
+
+pub const OUT_OF_ORDER: u8 = 14;
+
+pub const TOO_MANY: u8 = 15;
+
+pub const OUTSIDE_RULES: u8 = 16;
+
+pub const NOT_ALLOWED: u8 = 17;
+
+pub const EIGHT_OTHERS: u8 = 18;
+
+pub const UNSOUND: u8 = 19;
+
+pub const REPLY_ROOM: u8 = 20;
+
+pub const HOST_INPUT: u8 = 21;

@@ -1,0 +1,86 @@
+// The calls, with the host's numbers first: 19, 20, 21.
+ghost use mathlib.Core.Path.{_≡_};
+ghost use lib.ListN.{length};
+ghost use Rattle.rules.specs.Calls.{tickCall, inputCall, frameCall, leftIn};
+use crate::answers::ACCEPTED;
+use crate::answers::HOST_INPUT;
+use crate::answers::REPLY_ROOM;
+use crate::answers::UNSOUND;
+use crate::frame_call::on_frame;
+use crate::inputs::with_inputs;
+use crate::registers::IMAGE;
+use crate::sending::send;
+use crate::sending::unsent;
+use crate::sound::sound;
+use rules::Agent;
+
+// The answer, and the agent afterwards.
+pub struct Told {
+    pub answer: u8,
+    pub agent: Agent,
+}
+
+pub fn tick(a: Agent) -> Told
+    ensures { λ r. ⌜ (r .answer ≡ tickCall a .answer) × (r .agent ≡ tickCall a .agent) ⌝ }
+{
+    if sound(a) {
+        let next = crate::tick::tick(a);
+        return Told {
+            answer: ACCEPTED,
+            agent: next,
+        };
+    }
+    Told {
+        answer: UNSOUND,
+        agent: a,
+    }
+}
+
+pub fn inputs(a: Agent, xs: &[u8]) -> Told
+    ensures { λ r. ⌜ (r .answer ≡ inputCall a (now (xs .entry)) .answer) × (r .agent ≡ inputCall a (now (xs .entry)) .agent) ⌝ }
+{
+    if sound(a) {
+        if xs.len() == IMAGE {
+            let next = with_inputs(xs, a);
+            return Told {
+                answer: ACCEPTED,
+                agent: next,
+            };
+        }
+        return Told {
+            answer: HOST_INPUT,
+            agent: a,
+        };
+    }
+    Told {
+        answer: UNSOUND,
+        agent: a,
+    }
+}
+
+// The reply buffer has at least so many bytes.
+const LEAST_ROOM: usize = 545;
+
+// The answer, the agent afterwards, and how many bytes stand in the reply buffer to be sent.
+pub struct Handled {
+    pub answer: u8,
+    pub agent: Agent,
+    pub sent: u16,
+}
+
+// A body that came on a port, with a buffer for a reply, whose bytes past what is sent keep their value.
+pub fn frame(a: Agent, port: u8, body: &[u8], reply: &mut [u8]) -> Handled
+    ensures { λ r. ⌜ (r .answer ≡ frameCall a port (now (body .entry)) (length (now (reply .entry))) .answer) × (r .agent ≡ frameCall a port (now (body .entry)) (length (now (reply .entry))) .agent) × (r .sent ≡ length (frameCall a port (now (body .entry)) (length (now (reply .entry))) .line)) × (now (reply .exit) ≡ leftIn (frameCall a port (now (body .entry)) (length (now (reply .entry)))) (now (reply .entry))) ⌝ }
+{
+    if !sound(a) {
+        return unsent(UNSOUND, a);
+    }
+    if reply.len() < LEAST_ROOM {
+        return unsent(REPLY_ROOM, a);
+    }
+    let known = (port == 1) | (port == 2);
+    if !known {
+        return unsent(HOST_INPUT, a);
+    }
+    send(on_frame(port, a, body), reply)
+}

@@ -1,0 +1,156 @@
+// The frame call: numbers 1 to 9, and then by the kind of frame.
+ghost use mathlib.Core.Path.{_≡_};
+ghost use Prim.Native.Nat.{_≤_};
+ghost use lib.ListN.{length};
+ghost use Rattle.frames.specs.Kinds.{dataIn};
+ghost use Rattle.rules.specs.FrameCall.{onKind, served, isSil4, agentRead, onRead, isOwn, onApp, onBody, onFrame};
+ghost use Rattle.agent.specs.Fitting.{Fitting};
+ghost use Rattle.agent.specs.Whole.{Whole, WholeRead};
+use crate::answers::BODY_LENGTH;
+use crate::answers::CRC;
+use crate::answers::ELSEWHERE;
+use crate::answers::FCS;
+use crate::answers::FORM;
+use crate::answers::RESERVED;
+use crate::answers::STUFFING;
+use crate::answers::TYP;
+use crate::answers::UNSTUFFED_LENGTH;
+use crate::assignments::on_sid;
+use crate::assignments::on_tid;
+use crate::marks::format_marked;
+use crate::marks::line_marked;
+use crate::registers::TID;
+use crate::replies::does;
+use crate::requests::Ask;
+use crate::requests::on_request;
+use crate::sync::on_sync;
+use fields::byte_field;
+use frames::kinds::Frame;
+use frames::reading::Read;
+use frames::reading::read_app;
+use rules::Agent;
+use rules::Deed;
+use wire::body::Body;
+use wire::body::Verdict;
+use wire::body::read_body;
+
+// By the kind of a served frame that was read in application data.
+fn on_kind(port: u8, a: Agent, f: Frame, s: &[u8]) -> Deed
+    requires { ⌜ Whole f (now s) × (length (now s) ≤ 272) ⌝ }
+    ensures { λ r. ⌜ (r ≡ onKind port a f (dataIn f (now (s .entry)))) × Fitting (r .reply) ⌝ }
+{
+    match f {
+        Frame::Sync { src, cyc } => on_sync(port, a, src, cyc),
+        Frame::SafeRead {
+            dest,
+            src,
+            cyc,
+            seq,
+            datl,
+            add,
+        } => on_request(port, a, dest, src, cyc, seq, Ask::Reads(datl, add), s),
+        Frame::SafeWrite {
+            dest,
+            src,
+            cyc,
+            seq,
+            datl,
+            add,
+        } => {
+            let to = 12 + (datl as usize);
+            on_request(port, a, dest, src, cyc, seq, Ask::Writes(add), &s[12..to])
+        }
+        Frame::TidAssignment { iid, tid, .. } => on_tid(a, iid, tid),
+        Frame::SidAssignment { src, sec, mac, sid } => on_sid(a, src, sec, mac, sid),
+        Frame::SidAssignment4 { .. } => does(FORM, a),
+        _ => does(TYP, a),
+    }
+}
+
+// Served: 00h, 07h, 3Ch, C3h.
+fn served(typ: u8) -> bool
+    ensures { λ r. ⌜ r ≡ served typ ⌝ }
+{
+    match typ {
+        0x00 | 0x07 | 0x3C | 0xC3 => true,
+        _ => false,
+    }
+}
+
+// A SIL4 assignment is 8 for this module.
+fn is_sil4(s: &[u8]) -> bool
+    ensures { λ r. ⌜ r ≡ isSil4 (now (s .entry)) ⌝ }
+{
+    let typ = byte_field(s, 0);
+    (typ == 0xC3) & (s.len() == 27)
+}
+
+// Application data as this module reads them.
+fn agent_read(addr: u8, s: &[u8]) -> Read
+    ensures { λ r. ⌜ r ≡ agentRead addr (now (s .entry)) ⌝ }
+{
+    if !served(byte_field(s, 0)) {
+        return Read::Kind;
+    }
+    if is_sil4(s) {
+        return Read::Form;
+    }
+    read_app(addr, s)
+}
+
+// 7, 8, 9, then the kind.
+fn on_read(port: u8, a: Agent, read: Read, s: &[u8]) -> Deed
+    requires { ⌜ WholeRead read (now s) × (length (now s) ≤ 272) ⌝ }
+    ensures { λ r. ⌜ (r ≡ onRead port a read (now (s .entry))) × Fitting (r .reply) ⌝ }
+{
+    match read {
+        Read::Taken(f) => on_kind(port, a, f, s),
+        Read::Kind => does(TYP, format_marked(a)),
+        Read::Form => does(FORM, a),
+        Read::Check => does(CRC, a),
+    }
+}
+
+// 6: the address is the own TID, 90h or FFh.
+fn is_own(a: Agent, addr: u8) -> bool
+    ensures { λ r. ⌜ r ≡ isOwn a addr ⌝ }
+{
+    let tid = a.regs[TID];
+    (addr == tid) | (addr == 0x90) | (addr == 0xFF)
+}
+
+fn on_app(port: u8, a: Agent, addr: u8, s: &[u8]) -> Deed
+    requires { ⌜ length (now s) ≤ 272 ⌝ }
+    ensures { λ r. ⌜ (r ≡ onApp port a addr (now (s .entry))) × Fitting (r .reply) ⌝ }
+{
+    if !is_own(a, addr) {
+        return does(ELSEWHERE, a);
+    }
+    on_read(port, a, agent_read(addr, s), s)
+}
+
+// 1 to 4 are the line's, 5 another station's.
+fn on_body(port: u8, a: Agent, b: Body) -> Deed
+    requires { ⌜ b .len ≤ 272 ⌝ }
+    ensures { λ r. ⌜ (r ≡ onBody port a b) × Fitting (r .reply) ⌝ }
+{
+    let verdict = b.verdict;
+    let addr = b.addr;
+    let bytes = b.bytes;
+    let len = b.len;
+    match verdict {
+        Verdict::Taken => on_app(port, a, addr, &bytes[..len]),
+        Verdict::Length => does(BODY_LENGTH, line_marked(a)),
+        Verdict::Stuffing => does(STUFFING, line_marked(a)),
+        Verdict::Size => does(UNSTUFFED_LENGTH, line_marked(a)),
+        Verdict::Check => does(FCS, line_marked(a)),
+        Verdict::Reserved => does(RESERVED, a),
+    }
+}
+
+// A body that came on a port.
+pub fn on_frame(port: u8, a: Agent, body: &[u8]) -> Deed
+    ensures { λ r. ⌜ (r ≡ onFrame port a (now (body .entry))) × Fitting (r .reply) ⌝ }
+{
+    on_body(port, a, read_body(body))
+}

@@ -1,0 +1,44 @@
+// What a refusal marks and counts: STATUT bits, and counters that stop at 255.
+ghost use mathlib.Core.Path.{_≡_};
+ghost use Rattle.rules.specs.Marks.{counter, lineMarked, formatMarked, sequenceMarked};
+use crate::registers::CPT_FOR;
+use crate::registers::CPT_SEQ;
+use crate::registers::STATUT;
+use rules::Agent;
+
+// One more, up to 255.
+fn counter(x: u8) -> u8
+    ensures { λ r. ⌜ r ≡ counter x ⌝ }
+{
+    if x < 255 { x + 1 } else { 255 }
+}
+
+// 1 to 4: bit 5.
+pub fn line_marked(a: Agent) -> Agent
+    ensures { λ r. ⌜ r ≡ lineMarked a ⌝ }
+{
+    let mut next = a;
+    next.regs[STATUT] = a.regs[STATUT] | 0x20;
+    next
+}
+
+// 7: bit 5, and CPT_FOR (24h) + 1.
+pub fn format_marked(a: Agent) -> Agent
+    ensures { λ r. ⌜ r ≡ formatMarked a ⌝ }
+{
+    let count = counter(a.regs[CPT_FOR]);
+    let mut next = line_marked(a);
+    next.regs[CPT_FOR] = count;
+    next
+}
+
+// 12 and 14: bit 1, and CPT_SEQ (20h) + 1.
+pub fn sequence_marked(a: Agent) -> Agent
+    ensures { λ r. ⌜ r ≡ sequenceMarked a ⌝ }
+{
+    let count = counter(a.regs[CPT_SEQ]);
+    let mut next = a;
+    next.regs[STATUT] = a.regs[STATUT] | 0x02;
+    next.regs[CPT_SEQ] = count;
+    next
+}

@@ -1,0 +1,83 @@
+// Registers at power-up.
+ghost use mathlib.Core.Path.{_≡_};
+ghost use lib.ListN.{replicate};
+ghost use lib.Seq.{sets};
+ghost use Rattle.rules.specs.PowerUp.{settings, powerRegs, powerUp};
+use crate::fallback::WITHHELD;
+use crate::registers::AD_REF;
+use crate::registers::CNF_CYC;
+use crate::registers::CNF_REP;
+use crate::registers::IID;
+use crate::registers::MAC;
+use crate::registers::OUT_REP;
+use crate::registers::SID;
+use crate::registers::STATUT;
+use crate::registers::SZ_REF;
+use crate::registers::TCYC;
+use crate::registers::TID;
+use crate::registers::TYP;
+use crate::registers::VER;
+use crate::registers::fill;
+use crate::registers::put_low;
+use crate::state::IN_FALLBACK;
+use crate::state::NOBODY;
+use crate::state::UNHEARD;
+use rules::Agent;
+
+// All 256 registers start at zero.
+fn zero_registers() -> [u8; 256]
+    ensures { λ r. ⌜ r ≡ replicate 256 0 ⌝ }
+{
+    [0; 256]
+}
+
+// TID, SID (3), OUT_REP, TCYC, STATUT, CNF_REP, CNF_CYC, AD_REF, SZ_REF: 13h to 1Dh.
+fn put_settings(regs: &mut [u8; 256])
+    ensures { λ r. ⌜ now (regs .exit) ≡ sets (now (regs .entry)) 0x13 settings ⌝ }
+{
+    regs[TID] = 0x8F;
+    regs[SID] = 0xFF;
+    regs[0x15] = 0xFF;
+    regs[0x16] = 0xFF;
+    regs[OUT_REP] = WITHHELD;
+    regs[TCYC] = 0xFF;
+    regs[STATUT] = 0x80;
+    regs[CNF_REP] = 0x05;
+    regs[CNF_CYC] = 0x02;
+    regs[AD_REF] = 0x80;
+    regs[SZ_REF] = 0x08;
+}
+
+// MAC, IID, TYP 82h and VER, the settings, 26h to 7Fh = FFh.
+fn power_regs(mac: u64, iid: u64, ver: u16) -> [u8; 256]
+    ensures { λ r. ⌜ r ≡ powerRegs mac iid ver ⌝ }
+{
+    let mut regs = zero_registers();
+    put_low(&mut regs, MAC, 8, mac);
+    put_low(&mut regs, IID, 8, iid);
+    regs[TYP] = 0x82;
+    put_low(&mut regs, VER, 2, ver as u64);
+    put_settings(&mut regs);
+    fill(&mut regs, 0x26, 90, 0xFF);
+    regs
+}
+
+// Fallback, unheard, counters 0, no source.
+pub fn power_up(mac: u64, iid: u64, ver: u16) -> Agent
+    ensures { λ r. ⌜ r ≡ powerUp mac iid ver ⌝ }
+{
+    let regs = power_regs(mac, iid, ver);
+    Agent {
+        regs: regs,
+        known: [NOBODY; 8],
+        last: NOBODY,
+        silence: 0,
+        idle: 0,
+        cycle: 0,
+        elapsed: 0,
+        taken: 0,
+        mode: IN_FALLBACK,
+        heard: UNHEARD,
+        count: 0,
+    }
+}

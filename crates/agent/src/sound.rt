@@ -1,0 +1,114 @@
+// A state is sound if .. (document 01, "Who causes which number"), part by part. The tests are joined without branches,
+// in the order of the definitions.
+ghost use mathlib.Core.Path.{_≡_};
+ghost use Rattle.rules.specs.Sound.{settingsSound, sourcesSound, countersSound, outputsZero, runSound, fallbackSound, sound};
+use crate::fallback::RELEASED;
+use crate::fallback::WITHHELD;
+use crate::registers::CNF_CYC;
+use crate::registers::CNF_REP;
+use crate::registers::IMAGE;
+use crate::registers::OUT_REP;
+use crate::registers::OUTPUTS;
+use crate::registers::STATUT;
+use crate::registers::TCYC;
+use crate::registers::TID;
+use crate::registers::TYP;
+use crate::registers::product;
+use crate::sources::below24;
+use crate::sources::distinct;
+use crate::sources::is_recorded;
+use crate::sources::sid_of;
+use crate::state::IN_FALLBACK;
+use crate::state::IN_RUN;
+use crate::state::IS_HEARD;
+use crate::state::NOBODY;
+use crate::state::UNHEARD;
+use rules::Agent;
+
+// t, n, m are not 0, OUT_REP is 55h or AAh, TID is 8Fh or assignable, TYP is 82h.
+fn settings_sound(a: Agent) -> bool
+    ensures { λ r. ⌜ r ≡ settingsSound a ⌝ }
+{
+    let release = a.regs[OUT_REP];
+    let tid = a.regs[TID];
+    (a.regs[TCYC] != 0)
+        & (a.regs[CNF_CYC] != 0)
+        & (a.regs[CNF_REP] != 0)
+        & ((release == RELEASED) | (release == WITHHELD))
+        & ((tid == 0x8F) | (((0x01 <= tid) & (tid <= 0x8E)) & !((tid == 0x7D) | (tid == 0x7E))))
+        & (a.regs[TYP] == 0x82)
+}
+
+// The recorded are at most 8, distinct, none FFFFFFh, and none exactly when the SID is FFFFFFh.
+fn sources_sound(a: Agent) -> bool
+    ensures { λ r. ⌜ r ≡ sourcesSound a ⌝ }
+{
+    if 8 < a.count {
+        return false;
+    }
+    let n = a.count as usize;
+    // the list alone: to lend the field would copy more of the agent
+    let known = a.known;
+    let apart = distinct(&known, n);
+    let below = below24(&known, n);
+    let sid = sid_of(a);
+    apart & below & ((a.count == 0) == (sid == NOBODY))
+}
+
+// k is at most 64, e at most 254; the last source is a recorded one, or none and then the cycle is unheard; flags have
+// one of their two values.
+fn counters_sound(a: Agent) -> bool
+    ensures { λ r. ⌜ r ≡ countersSound a ⌝ }
+{
+    let known = is_recorded(a, a.last);
+    (a.taken <= 64)
+        & (a.elapsed <= 254)
+        & (known | ((a.last == NOBODY) & (a.heard == UNHEARD)))
+        & ((a.heard == IS_HEARD) | (a.heard == UNHEARD))
+}
+
+// The outputs are 0.
+fn outputs_zero(regs: &[u8; 256]) -> bool
+    ensures { λ r. ⌜ r ≡ outputsZero (now (regs .entry)) 64 ⌝ }
+{
+    let mut ok = true;
+    let mut i: usize = 0;
+    while i < IMAGE {
+        ok = ok & (regs[OUTPUTS + i] == 0);
+        i += 1;
+    }
+    ok
+}
+
+// Bits 7 and 6 of STATUT are 0; OUT_REP is 55h, s below n × t, q below m × t and a last source is there.
+fn run_sound(a: Agent) -> bool
+    ensures { λ r. ⌜ r ≡ runSound a ⌝ }
+{
+    let silence_end = product(a.regs[CNF_CYC], a.regs[TCYC]);
+    let idle_end = product(a.regs[CNF_REP], a.regs[TCYC]);
+    (a.mode == IN_RUN)
+        & (a.regs[STATUT] & 0xC0 == 0x00)
+        & (a.regs[OUT_REP] == RELEASED)
+        & (a.silence < silence_end)
+        & (a.idle < idle_end)
+        & (a.last != NOBODY)
+}
+
+// Bit 7 of STATUT is 1 and bit 6 is 0; outputs and q are 0.
+fn fallback_sound(a: Agent) -> bool
+    ensures { λ r. ⌜ r ≡ fallbackSound a ⌝ }
+{
+    let zero = outputs_zero(&a.regs);
+    (a.mode == IN_FALLBACK) & (a.regs[STATUT] & 0xC0 == 0x80) & (a.idle == 0) & zero
+}
+
+pub fn sound(a: Agent) -> bool
+    ensures { λ r. ⌜ r ≡ sound a ⌝ }
+{
+    let settings = settings_sound(a);
+    let sources = sources_sound(a);
+    let counters = counters_sound(a);
+    let run = run_sound(a);
+    let fallback = fallback_sound(a);
+    settings & sources & counters & (run | fallback)
+}

@@ -1,0 +1,11 @@
+// The state beside its registers: the values that its fields can have, by name.
+pub const IN_RUN: u8 = 1;
+
+pub const IN_FALLBACK: u8 = 0;
+
+pub const IS_HEARD: u8 = 1;
+
+pub const UNHEARD: u8 = 0;
+
+// No source, and no SID.
+pub const NOBODY: u32 = 0xFFFFFF;

@@ -1,0 +1,90 @@
+/* The header's layout is the library's: each field of saturn_agent is where the library keeps it. The library is driven
+ * through its calls, and each field is looked at, or set, at the place that the header gives it. */
+#include <stddef.h>
+#include <stdint.h>
+#include <stdio.h>
+#include <string.h>
+
+#include "saturn.h"
+#include "bodies.h"
+
+static unsigned failed;
+
+static void expect(int holds, const char *what)
+{
+    if (!holds) {
+        printf("layout: FAILED: %s\n", what);
+        failed++;
+    }
+}
+
+static struct {
+    uint8_t before[64];
+    saturn_agent agent;
+    uint8_t after[64];
+} m;
+
+static uint8_t reply[545];
+
+static uint8_t frame(const uint8_t *body, size_t length)
+{
+    uint16_t sent;
+    return saturn_frame(&m.agent, 1, body, length, reply, sizeof reply, &sent);
+}
+
+/* a sound agent with one field set so that it is unsound: the library sees the field where the header has it */
+static void unsound(size_t offset, uint8_t value, const char *what)
+{
+    saturn_agent kept = m.agent;
+    ((uint8_t *)&m.agent)[offset] = value;
+    saturn_agent set = m.agent;
+    expect(saturn_tick(&m.agent) == SATURN_UNSOUND, what);
+    expect(memcmp(&m.agent, &set, sizeof set) == 0, "an unsound agent is left as it is");
+    m.agent = kept;
+}
+
+int main(void)
+{
+    memset(&m, 0xEE, sizeof m);
+    saturn_power_up(&m.agent, 0x0807060504030201, 2, 0x0403);
+    for (unsigned i = 0; i < 64; i++)
+        expect(m.before[i] == 0xEE && m.after[i] == 0xEE, "the library writes inside the struct alone");
+    for (unsigned i = 0; i < 8; i++)
+        expect(m.agent.regs[i] == i + 1, "MAC in registers 00h to 07h");
+    expect(m.agent.regs[0x11] == 0x03 && m.agent.regs[0x12] == 0x04 && m.agent.regs[0x10] == 0x82, "TYP and VER");
+    expect(m.agent.regs[0xFF] == 0, "the last register");
+    for (unsigned i = 0; i < 8; i++)
+        expect(m.agent.known[i] == 0xFFFFFF, "known");
+    expect(m.agent.last == 0xFFFFFF, "last");
+
+    saturn_power_up(&m.agent, 1, 2, 0);
+    for (unsigned i = 0; i < 10; i++)
+        expect(saturn_tick(&m.agent) == SATURN_ACCEPTED, "tick");
+    expect(m.agent.elapsed == 10 && m.agent.silence == 10 && m.agent.cycle == 0 && m.agent.idle == 0, "elapsed and silence");
+    for (unsigned i = 0; i < 245; i++)
+        saturn_tick(&m.agent);
+    expect(m.agent.elapsed == 0 && m.agent.silence == 255 && m.agent.cycle == 1, "cycle");
+
+    expect(frame(TID_ASSIGNMENT, sizeof TID_ASSIGNMENT) == 0 && m.agent.regs[0x13] == 0x05, "TID");
+    expect(frame(SID_BY_A, sizeof SID_BY_A) == 0 && m.agent.count == 1 && m.agent.known[0] == 7, "count and known");
+    expect(frame(SYNC_A_10, sizeof SYNC_A_10) == 0 && m.agent.heard == 1 && m.agent.last == 7 && m.agent.cycle == 0x10, "heard and last");
+    expect(frame(RELEASE_BY_A, sizeof RELEASE_BY_A) == 0 && m.agent.taken == 1 && m.agent.mode == SATURN_FALLBACK, "taken");
+    expect(frame(SYNC_A_11, sizeof SYNC_A_11) == 0 && m.agent.mode == SATURN_RUN && m.agent.taken == 0, "mode");
+    for (unsigned i = 0; i < 300; i++)
+        saturn_tick(&m.agent);
+    expect(m.agent.idle == 300 && m.agent.silence == 300, "idle");
+
+    unsound(offsetof(saturn_agent, mode), 7, "mode is where the library has it");
+    unsound(offsetof(saturn_agent, heard), 7, "heard is where the library has it");
+    unsound(offsetof(saturn_agent, count), 9, "count is where the library has it");
+    unsound(offsetof(saturn_agent, elapsed), 255, "elapsed is where the library has it");
+    unsound(offsetof(saturn_agent, taken), 65, "taken is where the library has it");
+    unsound(offsetof(saturn_agent, idle) + 1, 0xFF, "idle is where the library has it");
+    unsound(offsetof(saturn_agent, silence) + 1, 0xFF, "silence is where the library has it");
+    unsound(offsetof(saturn_agent, last), 9, "last is where the library has it");
+    unsound(offsetof(saturn_agent, known) + 3, 1, "known is where the library has it");
+
+    if (failed == 0)
+        printf("layout: ok, %zu bytes\n", sizeof(saturn_agent));
+    return failed != 0;
+}
