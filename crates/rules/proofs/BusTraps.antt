@@ -1,20 +1,24 @@
 -- Document 01, "Traps of this bus", and what else is easily got wrong: what the rules do there, rule by rule.
 -- Assumes nothing.
 use mathlib.Core.Bool.{Bool, true, false, not, _&&_, _||_}
+use mathlib.Core.List.{List, [], _∷_}
 use mathlib.Core.Path.{_≡_, refl, sym, ap, _∙_}
-use Prim.Native.Nat.{ℕ, _+_, _<_}
+use Prim.Native.Nat.{ℕ, _+_, _-_, _<_}
 use native.Mathlib.Omega.{arith}
 use lib.Dec.{eqb}
-use lib.ListN.{length}
+use lib.Bits.{bitOr}
+use lib.ListN.{length, replicate, getD-replicate}
+use lib.Seq.{sets, length-sets}
 use Rattle.base.proofs.Choosing.{choose-true, or-second}
+use Rattle.base.proofs.Stored.{stored-in}
 use Rattle.rules.specs.Answers.{source, addressee, cycle, repeat}
 use Rattle.rules.specs.Fallback.{withheld, enterFallback, enterRun}
 use Rattle.rules.specs.Marks.{sequenceMarked}
-use Rattle.rules.specs.Registers.{outRep, outputsAt, image}
+use Rattle.rules.specs.Registers.{outRep, statut, outputsAt, image}
 use Rattle.rules.specs.Replies.{does}
 use Rattle.rules.specs.Requests.{Ask, onRequest}
 use Rattle.rules.specs.Sources.{isRecorded, sidOf}
-use Rattle.rules.specs.State.{isHeard, unheard, nobody, running}
+use Rattle.rules.specs.State.{isHeard, unheard, nobody, running, reg}
 use Rattle.rules.specs.Sync.{isRepeat, cycleFits, onSync}
 use Rattle.rules.specs.Tick.{syncLimit, limited}
 use Rattle.rules.specs.declared.Agent.{Agent}
@@ -41,6 +45,15 @@ module _ (port : ℕ) (a : Agent) (dest src cyc seq : ℕ) (ask : Ask) where
       → onRequest port a dest src cyc seq ask ≡ does cycle (sequenceMarked a)
   unfolding onRequest
   unheard-request e f g = simp (e, f, g)
+
+-- no output outlasts the entry to fallback
+pub fallback-clears : (a : Agent) → length (a .regs) ≡ 256 → (i : ℕ) → i < image → reg (enterFallback a) (outputsAt + i) ≡ 0
+unfolding enterFallback
+fallback-clears a e i h =
+    let r : List ℕ = sets (sets (a .regs) statut (bitOr (reg a statut) 0x80 ∷ [])) outRep (withheld ∷ []) in
+    let l : length r ≡ 256 = length-sets (sets (a .regs) statut (bitOr (reg a statut) 0x80 ∷ [])) outRep (withheld ∷ []) ∙ length-sets (a .regs) statut (bitOr (reg a statut) 0x80 ∷ []) ∙ e in
+    stored-in r outputsAt (replicate image 0) (outputsAt + i) (omega arith) (omega arith) (omega arith)
+    ∙ getD-replicate image (outputsAt + i - outputsAt) 0 0 (omega arith)
 
 -- no release is left pending after n × t of silence: OUT_REP falls in either mode
 pub silent-release : (a : Agent) → syncLimit a ≡ true → limited a ≡ enterFallback a
