@@ -1,5 +1,6 @@
 // What the answers of the case programs are made of.
 use text::putting;
+use wire::laying;
 use wire::laying::Laid;
 
 // The longest buffer that a case may ask for.
@@ -49,16 +50,15 @@ pub fn pattern() -> [u8; 600] {
 
 // A laying down: its number, the length on the line, and the first `room` bytes of the buffer.
 pub fn put_laid(out: &mut [u8], laid: Laid, buf: &[u8], room: usize) -> usize {
-    match laid {
-        Laid::Sent(n) => put_numbered(out, 0, n, buf, room),
-        Laid::Reserved => put_numbered(out, 5, 0, buf, room),
-        Laid::Form => put_numbered(out, 8, 0, buf, room),
-        Laid::Room => put_numbered(out, 20, 0, buf, room),
-    }
+    let a = putting::put_byte(out, 0, laying::laid_number(laid));
+    let b = put_word(out, a, laid_len(laid));
+    put_first(out, b, buf, room)
 }
 
-fn put_numbered(out: &mut [u8], number: u8, len: usize, buf: &[u8], room: usize) -> usize {
-    let a = putting::put_byte(out, 0, number);
-    let b = put_word(out, a, len);
-    put_first(out, b, buf, room)
+// The length on the line; none for a refusal.
+fn laid_len(laid: Laid) -> usize {
+    match laid {
+        Laid::Sent(n) => n,
+        _ => 0,
+    }
 }

@@ -3,25 +3,12 @@ use crate::answers;
 use text::putting;
 use wire::body;
 use wire::body::Body;
-use wire::body::Verdict;
 use wire::laying;
 use wire::laying::Laid;
 
-// Document 01's number.
-fn number(verdict: Verdict) -> u8 {
-    match verdict {
-        Verdict::Taken => 0,
-        Verdict::Length => 1,
-        Verdict::Stuffing => 2,
-        Verdict::Size => 3,
-        Verdict::Check => 4,
-        Verdict::Reserved => 5,
-    }
-}
-
 fn put_body(out: &mut [u8], b: Body) -> usize {
     let verdict = b.verdict;
-    let n = number(verdict);
+    let n = body::verdict_number(verdict);
     let addr = b.addr;
     let bytes = b.bytes;
     let len = b.len;

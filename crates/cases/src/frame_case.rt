@@ -16,21 +16,6 @@ fn data_place(f: Frame) -> usize {
     if kinds::is_safe(f) { 12 } else { 5 }
 }
 
-// Document 01's number.
-fn number(reading: Reading) -> u8 {
-    match reading {
-        Reading::Taken(_, _) => 0,
-        Reading::Length => 1,
-        Reading::Stuffing => 2,
-        Reading::Size => 3,
-        Reading::Fcs => 4,
-        Reading::Reserved => 5,
-        Reading::Kind => 7,
-        Reading::Form => 8,
-        Reading::Check => 9,
-    }
-}
-
 // Address, kind, fields and data of a frame that was taken.
 fn put_taken(out: &mut [u8], at: usize, addr: u8, f: Frame, bytes: &[u8]) -> usize {
     let a = putting::put_byte(out, at, addr);
@@ -41,7 +26,7 @@ fn put_taken(out: &mut [u8], at: usize, addr: u8, f: Frame, bytes: &[u8]) -> usi
 fn put_received(out: &mut [u8], r: Received) -> usize {
     let reading = r.reading;
     let bytes = r.bytes;
-    let at = putting::put_byte(out, 0, number(reading));
+    let at = putting::put_byte(out, 0, reading::reading_number(reading));
     let Reading::Taken(addr, f) = reading else {
         return at;
     };

@@ -2,7 +2,7 @@
 ghost use mathlib.Core.Path.{_≡_};
 ghost use Prim.Native.Nat.{_≤_};
 ghost use lib.ListN.{take};
-ghost use Rattle.frames.specs.Reading.{safeOk, safeRead, plainRead, readSync, readSafeRequest, readPlainRequest, safeCom, readSafeResponse, plainCom, readPlainResponse, readTidAssignment, readSidAssignment, readAcknowledgement, readInvariants, readApp, refusedFrame, receivedApp, receivedBody, readFrame, safeReadRequest, safeWriteRequest, sil2Assignment, sil4Assignment};
+ghost use Rattle.frames.specs.Reading.{safeOk, safeRead, plainRead, readSync, readSafeRequest, readPlainRequest, safeCom, readSafeResponse, plainCom, readPlainResponse, readTidAssignment, readSidAssignment, readAcknowledgement, readInvariants, readApp, refusedFrame, receivedApp, receivedBody, readFrame, readNumber, readingNumber, safeReadRequest, safeWriteRequest, sil2Assignment, sil4Assignment};
 use crate::kinds::Frame;
 use crc::Poly;
 use fields::byte_field;
@@ -21,6 +21,18 @@ pub enum Read {
     Check,
 }
 
+// Document 01's number.
+pub fn read_number(read: Read) -> u8
+    ensures { λ r. ⌜ r ≡ readNumber read ⌝ }
+{
+    match read {
+        Read::Taken(_) => 0,
+        Read::Kind => 7,
+        Read::Form => 8,
+        Read::Check => 9,
+    }
+}
+
 // What a body is answered: an address and a frame, or numbers 1 to 5 and 7 to 9.
 pub enum Reading {
     Taken(u8, Frame),
@@ -32,6 +44,22 @@ pub enum Reading {
     Kind,
     Form,
     Check,
+}
+
+pub fn reading_number(reading: Reading) -> u8
+    ensures { λ r. ⌜ r ≡ readingNumber reading ⌝ }
+{
+    match reading {
+        Reading::Taken(_, _) => 0,
+        Reading::Length => 1,
+        Reading::Stuffing => 2,
+        Reading::Size => 3,
+        Reading::Fcs => 4,
+        Reading::Reserved => 5,
+        Reading::Kind => 7,
+        Reading::Form => 8,
+        Reading::Check => 9,
+    }
 }
 
 // A frame that was read, beside the application data that hold its data bytes, the first `len` of `bytes`.

@@ -6,17 +6,17 @@ use lib.Dec.{eqb}
 use lib.ListN.{length, take}
 use Rattle.base.specs.Choice.{choose}
 use Rattle.base.specs.Bytes.{numberAt}
-use Rattle.wire.specs.Body.{readBody}
+use Rattle.wire.specs.Body.{readBody, verdictNumber}
 use Rattle.wire.specs.declared.body.Body.{Body}
 use Rattle.wire.specs.declared.body.Verdict.{Verdict}
 use Rattle.wire.specs.declared.body.Verdict.the-variants as verdict
 use Rattle.frames.specs.Kinds.{dataIn}
-use Rattle.frames.specs.Reading.{readApp}
+use Rattle.frames.specs.Reading.{readApp, readNumber}
 use Rattle.frames.specs.declared.kinds.Frame.{Frame}
 use Rattle.frames.specs.declared.kinds.Frame.the-variants.{Sync, SafeRead, SafeWrite, PlainRead, PlainWrite, SafeResponse, PlainSyncResponse, PlainResponse, TidAssignment, SidAssignment, SidAssignment4, Acknowledgement, Invariants}
 use Rattle.frames.specs.declared.reading.Read.{Read}
 use Rattle.frames.specs.declared.reading.Read.the-variants.{Taken, Kind, Form, Check}
-use Rattle.rules.specs.Answers.{bodyLength, stuffing, unstuffedLength, fcs, reserved, elsewhere, typ, form, crc}
+use Rattle.rules.specs.Answers.{elsewhere, typ, form}
 use Rattle.rules.specs.Assignments.{onTid, onSid}
 use Rattle.rules.specs.Marks.{lineMarked, formatMarked}
 use Rattle.rules.specs.Registers.{tidAt}
@@ -59,9 +59,9 @@ agentRead addr s = choose (served (numberAt s 0 1)) (choose (isSil4 s) Form (rea
 -- 7, 8, 9, then the kind
 abbrev pub onRead : ℕ → Agent → Read → List ℕ → Deed
 onRead port a (Taken f) s = onKind port a f (dataIn f s)
-onRead port a Kind s = does typ (formatMarked a)
-onRead port a Form s = does form a
-onRead port a Check s = does crc a
+onRead port a Kind s = does (readNumber Kind) (formatMarked a)
+onRead port a Form s = does (readNumber Form) a
+onRead port a Check s = does (readNumber Check) a
 
 -- 6: the address is the own TID, 90h or FFh
 abbrev pub isOwn : Agent → ℕ → Bool
@@ -73,11 +73,11 @@ onApp port a addr s = choose (isOwn a addr) (onRead port a (agentRead addr s) s)
 -- 1 to 4 are the line's, 5 another station's
 abbrev pub onVerdict : ℕ → Agent → Verdict → Body → Deed
 onVerdict port a verdict.Taken b = onApp port a (b .addr) (take (b .len) (b .bytes))
-onVerdict port a verdict.Length b = does bodyLength (lineMarked a)
-onVerdict port a verdict.Stuffing b = does stuffing (lineMarked a)
-onVerdict port a verdict.Size b = does unstuffedLength (lineMarked a)
-onVerdict port a verdict.Check b = does fcs (lineMarked a)
-onVerdict port a verdict.Reserved b = does reserved a
+onVerdict port a verdict.Length b = does (verdictNumber verdict.Length) (lineMarked a)
+onVerdict port a verdict.Stuffing b = does (verdictNumber verdict.Stuffing) (lineMarked a)
+onVerdict port a verdict.Size b = does (verdictNumber verdict.Size) (lineMarked a)
+onVerdict port a verdict.Check b = does (verdictNumber verdict.Check) (lineMarked a)
+onVerdict port a verdict.Reserved b = does (verdictNumber verdict.Reserved) a
 
 unfoldable pub onBody : ℕ → Agent → Body → Deed
 onBody port a b = onVerdict port a (b .verdict) b

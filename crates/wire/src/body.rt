@@ -1,7 +1,7 @@
 // The body between two flags: address, stuffed application data, stuffed FCS.
 ghost use mathlib.Core.Path.{_≡_};
 ghost use Prim.Native.Nat.{_≤_};
-ghost use Rattle.wire.specs.Body.{reservedAddr, fcsOf, refusedBody, checkedBody, unstuffedBody, readBody};
+ghost use Rattle.wire.specs.Body.{verdictNumber, reservedAddr, fcsOf, refusedBody, checkedBody, unstuffedBody, readBody};
 use crate::stuffing;
 use crate::stuffing::Unstuffed;
 use crc::Poly;
@@ -14,6 +14,20 @@ pub enum Verdict {
     Size,
     Check,
     Reserved,
+}
+
+// Document 01's number.
+pub fn verdict_number(verdict: Verdict) -> u8
+    ensures { λ r. ⌜ r ≡ verdictNumber verdict ⌝ }
+{
+    match verdict {
+        Verdict::Taken => 0,
+        Verdict::Length => 1,
+        Verdict::Stuffing => 2,
+        Verdict::Size => 3,
+        Verdict::Check => 4,
+        Verdict::Reserved => 5,
+    }
 }
 
 // A body that was read: its address, and its application data, the first `len` of `bytes`.

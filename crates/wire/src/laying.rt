@@ -4,7 +4,7 @@ ghost use mathlib.Core.List.{_++_};
 ghost use Prim.Native.Nat.{_≤_};
 ghost use lib.ListN.{length, drop};
 ghost use lib.Seq.{sets};
-ghost use Rattle.wire.specs.Laying.{bodyWith, lineWith, lineOf, laidOf, leftBy};
+ghost use Rattle.wire.specs.Laying.{laidNumber, bodyWith, lineWith, lineOf, laidOf, leftBy};
 use crate::body;
 use crate::stuffing;
 use crate::stuffing::FLAG;
@@ -46,6 +46,18 @@ pub enum Laid {
     Reserved,
     Form,
     Room,
+}
+
+// Document 01's number.
+pub fn laid_number(laid: Laid) -> u8
+    ensures { λ r. ⌜ r ≡ laidNumber laid ⌝ }
+{
+    match laid {
+        Laid::Sent(_) => 0,
+        Laid::Reserved => 5,
+        Laid::Form => 8,
+        Laid::Room => 20,
+    }
 }
 
 // Application data laid down for an address, or refused with the buffer untouched.
