@@ -1,6 +1,7 @@
 pub mod StoredPast
 pub mod CallLaws
 pub mod LowNumbers
+pub mod OtherArms
 pub mod PowerUpLaws
 pub mod ReplyLaws
 pub mod SendingLaws

@@ -1,13 +1,5 @@
-// Document 01, "Who causes which number": the answers by name.
+// Document 01, "Who causes which number": the answers by name. Numbers 1 to 4 and 9 are those of `wire::body` and `frames::reading`.
 pub const ACCEPTED: u8 = 0;
-
-pub const BODY_LENGTH: u8 = 1;
-
-pub const STUFFING: u8 = 2;
-
-pub const UNSTUFFED_LENGTH: u8 = 3;
-
-pub const FCS: u8 = 4;
 
 pub const RESERVED: u8 = 5;
 
@@ -16,8 +8,6 @@ pub const ELSEWHERE: u8 = 6;
 pub const TYP: u8 = 7;
 
 pub const FORM: u8 = 8;
-
-pub const CRC: u8 = 9;
 
 pub const SOURCE: u8 = 10;
 

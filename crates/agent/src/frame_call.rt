@@ -6,15 +6,10 @@ ghost use Rattle.frames.specs.Kinds.{dataIn};
 ghost use Rattle.rules.specs.FrameCall.{onKind, served, isSil4, agentRead, onRead, isOwn, onApp, onBody, onFrame};
 ghost use Rattle.agent.specs.Fitting.{Fitting};
 ghost use Rattle.agent.specs.Whole.{Whole, WholeRead};
-use crate::answers::BODY_LENGTH;
-use crate::answers::CRC;
 use crate::answers::ELSEWHERE;
-use crate::answers::FCS;
 use crate::answers::FORM;
 use crate::answers::RESERVED;
-use crate::answers::STUFFING;
 use crate::answers::TYP;
-use crate::answers::UNSTUFFED_LENGTH;
 use crate::assignments::on_sid;
 use crate::assignments::on_tid;
 use crate::marks::format_marked;
@@ -28,11 +23,13 @@ use fields::byte_field;
 use frames::kinds::Frame;
 use frames::reading::Read;
 use frames::reading::read_app;
+use frames::reading::read_number;
 use rules::Agent;
 use rules::Deed;
 use wire::body::Body;
 use wire::body::Verdict;
 use wire::body::read_body;
+use wire::body::verdict_number;
 
 // By the kind of a served frame that was read in application data.
 fn on_kind(port: u8, a: Agent, f: Frame, s: &[u8]) -> Deed
@@ -106,8 +103,7 @@ fn on_read(port: u8, a: Agent, read: Read, s: &[u8]) -> Deed
     match read {
         Read::Taken(f) => on_kind(port, a, f, s),
         Read::Kind => does(TYP, format_marked(a)),
-        Read::Form => does(FORM, a),
-        Read::Check => does(CRC, a),
+        _ => does(read_number(read), a),
     }
 }
 
@@ -140,11 +136,8 @@ fn on_body(port: u8, a: Agent, b: Body) -> Deed
     let len = b.len;
     match verdict {
         Verdict::Taken => on_app(port, a, addr, &bytes[..len]),
-        Verdict::Length => does(BODY_LENGTH, line_marked(a)),
-        Verdict::Stuffing => does(STUFFING, line_marked(a)),
-        Verdict::Size => does(UNSTUFFED_LENGTH, line_marked(a)),
-        Verdict::Check => does(FCS, line_marked(a)),
         Verdict::Reserved => does(RESERVED, a),
+        _ => does(verdict_number(verdict), line_marked(a)),
     }
 }
 

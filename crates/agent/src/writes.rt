@@ -152,12 +152,9 @@ fn written(span: Span, a: Agent, add: u8, xs: &[u8]) -> Agent
 {
     match span {
         Span::Release => release_written(a, add, xs),
-        Span::CycleTime => store_all(add, xs, a),
-        Span::Limits => store_all(add, xs, a),
-        Span::Counters => store_all(add, xs, a),
-        Span::Config => store_all(add, xs, a),
         Span::Outputs => outputs_written(a, add, xs),
         Span::Outside => a,
+        _ => store_all(add, xs, a),
     }
 }
 

@@ -1,5 +1,7 @@
 -- `frame_call::on_read` meets its contract: each answer of the reader. Assumes nothing.
+use mathlib.Core.Path.{_∙_}
 use borrow.Author.Needs.{needs}
+use Rattle.agent.proofs.OtherArms.{read-refused}
 use Rattle.agent.proofs.frame_call.on_read.Statement.{statement}
 use Rattle.agent.proofs.frame_call.on_read.Tie as tie
 
@@ -18,17 +20,11 @@ format-marked-requires c κs = search needs
 does-requires : tie.Need-does-requires
 does-requires c κs = search needs
 
-enum-told-2 : tie.Need-enum-told-2
-enum-told-2 c = search needs
+read-number-requires : tie.Need-read-number-requires
+read-number-requires c κs = search needs
 
 does-requires-2 : tie.Need-does-requires-2
 does-requires-2 c κs = search needs
-
-enum-told-3 : tie.Need-enum-told-3
-enum-told-3 c = search needs
-
-does-requires-3 : tie.Need-does-requires-3
-does-requires-3 c κs = search needs
 
 returns : tie.Need-returns
 returns c = (rw (c .before .before .read .given .1) (c .on-kind .ensures .0), c .on-kind .ensures .1)
@@ -37,10 +33,9 @@ returns-2 : tie.Need-returns-2
 returns-2 c = (rw (c .before .before .enum-told .given .1, ← (c .before .format-marked .ensures)) (c .does .ensures .0), c .does .ensures .1)
 
 returns-3 : tie.Need-returns-3
-returns-3 c = (rw (c .before .enum-told2 .given .1) (c .does2 .ensures .0), c .does2 .ensures .1)
-
-returns-4 : tie.Need-returns-4
-returns-4 c = (rw (c .before .enum-told3 .given .1) (c .does3 .ensures .0), c .does3 .ensures .1)
+returns-3 c =
+    let a = c .before .before .before .before .args in
+    (rw (← (c .before .read-number .ensures)) (c .does2 .ensures .0) ∙ read-refused (a .port) (a .a) (a .s .now) (a .read) (c .before .before .match .keys3), c .does2 .ensures .1)
 
 pub on-read-spec : {M : Type 1} → statement M
 on-read-spec =
@@ -51,11 +46,8 @@ on-read-spec =
     enum-told
     format-marked-requires
     does-requires
-    enum-told-2
+    read-number-requires
     does-requires-2
-    enum-told-3
-    does-requires-3
     returns
     returns-2
-    returns-3
-    returns-4)
+    returns-3)

@@ -1,0 +1,53 @@
+-- What the last arm of a `match` leaves: each of the values that it stands for. Assumes nothing.
+use mathlib.Core.Path.{_≡_, refl}
+use mathlib.Core.List.{List, [], _∷_}
+use Prim.Native.Nat.{ℕ}
+use types.Run.{OneOf, miss}
+use denote.Enum.Declared.{tagOf}
+use Rattle.wire.specs.Body.{verdictNumber}
+use Rattle.wire.specs.declared.body.Body.{Body}
+use Rattle.wire.specs.declared.body.Verdict.{Verdict}
+use Rattle.wire.specs.declared.body.Verdict.the-variants as verdict
+use Rattle.wire.proofs.body.Verdict as verdict-type
+use Rattle.frames.specs.Reading.{readNumber}
+use Rattle.frames.specs.declared.reading.Read.{Read}
+use Rattle.frames.specs.declared.reading.Read.the-variants as read
+use Rattle.frames.proofs.reading.Read as read-type
+use Rattle.rules.specs.FrameCall.{onRead, onVerdict}
+use Rattle.rules.specs.Marks.{lineMarked}
+use Rattle.rules.specs.Replies.{does}
+use Rattle.rules.specs.State.{storeAll}
+use Rattle.rules.specs.Writes.{written}
+use Rattle.rules.specs.declared.Agent.{Agent}
+use Rattle.rules.specs.declared.Span.{Span}
+use Rattle.rules.specs.declared.Span.the-variants.{Release, CycleTime, Limits, Counters, Config, Outputs, Outside}
+use Rattle.rules.proofs.Span as span-type
+
+-- 1 to 4 are the line's
+pub line-refused : (port : ℕ) (a : Agent) (b : Body) (v : Verdict) → OneOf (1 ∷ 2 ∷ 3 ∷ 4 ∷ []) (tagOf verdict-type.the-type v)
+    → does (verdictNumber v) (lineMarked a) ≡ onVerdict port a v b
+line-refused port a b verdict.Length k = refl
+line-refused port a b verdict.Stuffing k = refl
+line-refused port a b verdict.Size k = refl
+line-refused port a b verdict.Check k = refl
+line-refused port a b verdict.Taken k = absurd (miss (1 ∷ 2 ∷ 3 ∷ 4 ∷ []) 0 tt k)
+line-refused port a b verdict.Reserved k = absurd (miss (1 ∷ 2 ∷ 3 ∷ 4 ∷ []) 5 tt k)
+
+-- 8 and 9 leave no trace
+pub read-refused : (port : ℕ) (a : Agent) (s : List ℕ) (r : Read) → OneOf (2 ∷ 3 ∷ []) (tagOf read-type.the-type r)
+    → does (readNumber r) a ≡ onRead port a r s
+read-refused port a s read.Form k = refl
+read-refused port a s read.Check k = refl
+read-refused port a s (read.Taken f) k = absurd (miss (2 ∷ 3 ∷ []) 0 tt k)
+read-refused port a s read.Kind k = absurd (miss (2 ∷ 3 ∷ []) 1 tt k)
+
+-- these spans are stored and nothing else
+pub stored-span : (a : Agent) (add : ℕ) (xs : List ℕ) (s : Span) → OneOf (1 ∷ 2 ∷ 3 ∷ 4 ∷ []) (tagOf span-type.the-type s)
+    → storeAll add xs a ≡ written s a add xs
+stored-span a add xs CycleTime k = refl
+stored-span a add xs Limits k = refl
+stored-span a add xs Counters k = refl
+stored-span a add xs Config k = refl
+stored-span a add xs Release k = absurd (miss (1 ∷ 2 ∷ 3 ∷ 4 ∷ []) 0 tt k)
+stored-span a add xs Outputs k = absurd (miss (1 ∷ 2 ∷ 3 ∷ 4 ∷ []) 5 tt k)
+stored-span a add xs Outside k = absurd (miss (1 ∷ 2 ∷ 3 ∷ 4 ∷ []) 6 tt k)
