@@ -7,22 +7,8 @@
 //! - `peer census`: a script on standard input, how often what came up on standard output
 //! - `peer test`: self checks
 
-mod body;
-mod cases;
-mod census;
-mod check;
-mod crc;
-mod fields;
-mod frame;
-mod generate;
-mod hex;
-mod module;
-mod refusal;
-mod script;
-mod stuffing;
-mod vectors;
-
-use cases::Program;
+use peer::cases::{self, Program};
+use peer::{census, check, generate, script};
 use std::io::{self, BufWriter, ErrorKind, Read, Write};
 use std::process::ExitCode;
 

@@ -4,7 +4,7 @@ mod bad;
 mod body_laying;
 mod body_reading;
 mod crc;
-mod damage;
+pub mod damage;
 pub mod draft;
 mod frame_faults;
 mod frame_reading;
