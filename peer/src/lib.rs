@@ -12,5 +12,6 @@ pub mod hex;
 pub mod module;
 pub mod refusal;
 pub mod script;
+pub mod spelling;
 pub mod stuffing;
 pub mod vectors;

@@ -4,11 +4,13 @@
 //! - `peer cases crc|body|frame SEED COUNT`: seeded cases
 //! - `peer script`, `peer trace`: a script on standard input, what came of it on standard output
 //! - `peer scripts SEED COUNT`: a seeded script of so many lines
+//! - `peer frame`: frames by their fields and bodies on standard input, bodies and frames on standard output
+//! - `peer frames SEED COUNT`: seeded lines for it
 //! - `peer census`: a script on standard input, how often what came up on standard output
 //! - `peer test`: self checks
 
 use peer::cases::{self, Program};
-use peer::{census, check, generate, script};
+use peer::{census, check, generate, script, spelling};
 use std::io::{self, BufWriter, ErrorKind, Read, Write};
 use std::process::ExitCode;
 
@@ -17,6 +19,8 @@ const USAGE: &str = "usage: peer answer crc|body|frame
        peer script
        peer trace
        peer scripts SEED COUNT
+       peer frame
+       peer frames SEED COUNT
        peer census
        peer test
 ";
@@ -30,6 +34,8 @@ fn main() -> ExitCode {
         ["script"] => Some(play(script::Program::Script)),
         ["trace"] => Some(play(script::Program::Trace)),
         ["scripts", seed, count] => scripts(seed, count),
+        ["frame"] => Some(frame_lines()),
+        ["frames", seed, count] => frames(seed, count),
         ["census"] => Some(count()),
         ["test"] => Some(test()),
         _ => None,
@@ -72,6 +78,18 @@ fn cases(name: &str, seed: &str, count: &str) -> Option<io::Result<ExitCode>> {
 fn scripts(seed: &str, count: &str) -> Option<io::Result<ExitCode>> {
     let (seed, count) = (seed.parse().ok()?, count.parse().ok()?);
     Some(print(generate::script(seed, count)))
+}
+
+/// `None` for words that are not two numbers.
+fn frames(seed: &str, count: &str) -> Option<io::Result<ExitCode>> {
+    let (seed, count) = (seed.parse().ok()?, count.parse().ok()?);
+    Some(print(generate::frame_lines(seed, count)))
+}
+
+fn frame_lines() -> io::Result<ExitCode> {
+    let output = BufWriter::new(io::stdout().lock());
+    spelling::run(io::stdin().lock(), output)?;
+    Ok(ExitCode::SUCCESS)
 }
 
 fn play(program: script::Program) -> io::Result<ExitCode> {
