@@ -22,12 +22,13 @@ use stage::Stage;
 type Scene = fn(&mut Stage);
 
 /// The scenes and how often each is in a deck.
-const SCENES: [(Scene, usize); 41] = [
+const SCENES: [(Scene, usize); 42] = [
     (cycles::steady, 4),
     (cycles::wrap, 2),
     (takeover::in_run, 5),
     (takeover::in_fallback, 2),
     (takeover::round, 1),
+    (takeover::late_closing, 2),
     (settings::change, 3),
     (settings::refused, 2),
     (settings::references, 3),
