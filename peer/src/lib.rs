@@ -7,6 +7,7 @@ pub mod check;
 pub mod crc;
 pub mod fields;
 pub mod frame;
+pub mod fuzz;
 pub mod generate;
 pub mod hex;
 pub mod module;

@@ -7,10 +7,11 @@
 //! - `peer frame`: frames by their fields and bodies on standard input, bodies and frames on standard output
 //! - `peer frames SEED COUNT`: seeded lines for it
 //! - `peer census`: a script on standard input, how often what came up on standard output
+//! - `peer fuzz COUNT SEED PROGRAM...`: fresh scripts through `trace` and another trace program
 //! - `peer test`: self checks
 
 use peer::cases::{self, Program};
-use peer::{census, check, generate, script, spelling};
+use peer::{census, check, fuzz, generate, script, spelling};
 use std::io::{self, BufWriter, ErrorKind, Read, Write};
 use std::process::ExitCode;
 
@@ -22,6 +23,7 @@ const USAGE: &str = "usage: peer answer crc|body|frame
        peer frame
        peer frames SEED COUNT
        peer census
+       peer fuzz COUNT SEED PROGRAM...
        peer test
 ";
 
@@ -37,6 +39,9 @@ fn main() -> ExitCode {
         ["frame"] => Some(frame_lines()),
         ["frames", seed, count] => frames(seed, count),
         ["census"] => Some(count()),
+        ["fuzz", count, seed, ref command @ ..] if !command.is_empty() => {
+            fuzzed(count, seed, command)
+        }
         ["test"] => Some(test()),
         _ => None,
     };
@@ -102,6 +107,18 @@ fn count() -> io::Result<ExitCode> {
     let mut script = Vec::new();
     io::stdin().read_to_end(&mut script)?;
     print(census::of(&script).to_string())
+}
+
+/// `None` for words that do not begin with two numbers.
+fn fuzzed(count: &str, seed: &str, command: &[&str]) -> Option<io::Result<ExitCode>> {
+    let (count, seed) = (count.parse().ok()?, seed.parse().ok()?);
+    Some(fuzz::run(count, seed, command).and_then(|report| {
+        print(report.to_string())?;
+        Ok(match report.difference {
+            None => ExitCode::SUCCESS,
+            Some(_) => ExitCode::FAILURE,
+        })
+    }))
 }
 
 fn test() -> io::Result<ExitCode> {
