@@ -148,14 +148,41 @@ pub fn values_of(address: u8, frame: &Frame) -> (&'static Kind, Vec<u64>) {
         Frame::Sync { src, cyc } => ("sync", vec![src as u64, cyc as u64]),
         Frame::SafeRead { head, span } => ("read", behind(to, head, &[span.datl, span.add])),
         Frame::SafeWrite { head, span } => ("write", behind(to, head, &[span.add])),
-        Frame::PlainRead { src, span } => ("plain-read", bytes(to, &[src, span.datl, span.add])),
-        Frame::PlainWrite { src, span } => ("plain-write", bytes(to, &[src, span.add])),
         Frame::SafeResponse {
             head,
             com,
             span,
             stat,
         } => ("response", behind(to, head, &[com, span.add, stat])),
+        Frame::Invariants {
+            head,
+            configuration,
+            logic,
+        } => {
+            let crcs = [configuration as u64, logic as u64];
+            (
+                "invariants",
+                [behind(to, head, &[]), crcs.to_vec()].concat(),
+            )
+        }
+        Frame::SidAssignmentSil2(first) => ("sid", assigned(to, first)),
+        Frame::SidAssignmentSil4 { first, sid2, src2 } => {
+            let second = [sid2 as u64, src2 as u64];
+            ("sid4", [assigned(to, first), second.to_vec()].concat())
+        }
+        Frame::Acknowledgement { src, dst, sec, mac } => {
+            ("ack", vec![to, src as u64, dst as u64, sec as u64, mac])
+        }
+        _ => plain_values(to, frame),
+    };
+    let kind = kinds::named(name.as_bytes()).expect("a kind of the table");
+    (kind, values)
+}
+
+fn plain_values(to: u64, frame: &Frame) -> (&'static str, Vec<u64>) {
+    match *frame {
+        Frame::PlainRead { src, span } => ("plain-read", bytes(to, &[src, span.datl, span.add])),
+        Frame::PlainWrite { src, span } => ("plain-write", bytes(to, &[src, span.add])),
         Frame::PlainSyncAnswer { src, span, stat } => {
             ("plain-sync-response", bytes(to, &[src, span.add, stat]))
         }
@@ -163,29 +190,8 @@ pub fn values_of(address: u8, frame: &Frame) -> (&'static Kind, Vec<u64>) {
             ("plain-response", bytes(to, &[src, com, span.add]))
         }
         Frame::TidAssignment { src, iid, tid } => ("tid", vec![to, src as u64, iid, tid as u64]),
-        Frame::SidAssignmentSil2(first) => ("sid", assigned(to, first)),
-        Frame::SidAssignmentSil4 { first, sid2, src2 } => {
-            let mut values = assigned(to, first);
-            values.extend([sid2 as u64, src2 as u64]);
-            ("sid4", values)
-        }
-        Frame::Acknowledgement { src, dst, sec, mac } => {
-            ("ack", vec![to, src as u64, dst as u64, sec as u64, mac])
-        }
-        Frame::Invariants {
-            head,
-            configuration,
-            logic,
-        } => {
-            let mut values = behind(to, head, &[]);
-            values.extend([configuration as u64, logic as u64]);
-            ("invariants", values)
-        }
-    };
-    (
-        kinds::named(name.as_bytes()).expect("a kind of the table"),
-        values,
-    )
+        _ => unreachable!("the safe kinds are told before"),
+    }
 }
 
 fn bytes(to: u64, bytes: &[u8]) -> Vec<u64> {

@@ -18,8 +18,9 @@ pub fn check(seed: u64, tally: &mut Tally) -> Result<(), String> {
         let again = powered_up(random, mac, iid, ver);
         let wanted = state::laid_out(&Agent::power_up(mac, iid, ver), &given);
         if given != wanted || given != again {
+            let what = format!("power-up with MAC {mac:X}, IID {iid:X}, VER {ver:X}");
             return Err(format!(
-                "power-up with MAC {mac:X}, IID {iid:X}, VER {ver:X}\nwanted {wanted:?}\ngiven  {given:?}\nagain  {again:?}"
+                "{what}\nwanted {wanted:?}\ngiven  {given:?}\nagain  {again:?}"
             ));
         }
         tally.add("power-up");
