@@ -4,25 +4,14 @@
 //! - `peer cases crc|body|frame SEED COUNT`: seeded cases
 //! - `peer script`, `peer trace`: a script on standard input, what came of it on standard output
 //! - `peer scripts SEED COUNT`: a seeded script of so many lines
+//! - `peer frame`: frames by their fields and bodies on standard input, bodies and frames on standard output
+//! - `peer frames SEED COUNT`: seeded lines for it
 //! - `peer census`: a script on standard input, how often what came up on standard output
+//! - `peer fuzz COUNT SEED PROGRAM...`: fresh scripts through `trace` and another trace program
 //! - `peer test`: self checks
 
-mod body;
-mod cases;
-mod census;
-mod check;
-mod crc;
-mod fields;
-mod frame;
-mod generate;
-mod hex;
-mod module;
-mod refusal;
-mod script;
-mod stuffing;
-mod vectors;
-
-use cases::Program;
+use peer::cases::{self, Program};
+use peer::{census, check, fuzz, generate, script, spelling};
 use std::io::{self, BufWriter, ErrorKind, Read, Write};
 use std::process::ExitCode;
 
@@ -31,7 +20,10 @@ const USAGE: &str = "usage: peer answer crc|body|frame
        peer script
        peer trace
        peer scripts SEED COUNT
+       peer frame
+       peer frames SEED COUNT
        peer census
+       peer fuzz COUNT SEED PROGRAM...
        peer test
 ";
 
@@ -44,7 +36,12 @@ fn main() -> ExitCode {
         ["script"] => Some(play(script::Program::Script)),
         ["trace"] => Some(play(script::Program::Trace)),
         ["scripts", seed, count] => scripts(seed, count),
+        ["frame"] => Some(frame_lines()),
+        ["frames", seed, count] => frames(seed, count),
         ["census"] => Some(count()),
+        ["fuzz", count, seed, ref command @ ..] if !command.is_empty() => {
+            fuzzed(count, seed, command)
+        }
         ["test"] => Some(test()),
         _ => None,
     };
@@ -88,6 +85,18 @@ fn scripts(seed: &str, count: &str) -> Option<io::Result<ExitCode>> {
     Some(print(generate::script(seed, count)))
 }
 
+/// `None` for words that are not two numbers.
+fn frames(seed: &str, count: &str) -> Option<io::Result<ExitCode>> {
+    let (seed, count) = (seed.parse().ok()?, count.parse().ok()?);
+    Some(print(generate::frame_lines(seed, count)))
+}
+
+fn frame_lines() -> io::Result<ExitCode> {
+    let output = BufWriter::new(io::stdout().lock());
+    spelling::run(io::stdin().lock(), output)?;
+    Ok(ExitCode::SUCCESS)
+}
+
 fn play(program: script::Program) -> io::Result<ExitCode> {
     let output = BufWriter::new(io::stdout().lock());
     script::run(program, io::stdin().lock(), output)?;
@@ -98,6 +107,18 @@ fn count() -> io::Result<ExitCode> {
     let mut script = Vec::new();
     io::stdin().read_to_end(&mut script)?;
     print(census::of(&script).to_string())
+}
+
+/// `None` for words that do not begin with two numbers.
+fn fuzzed(count: &str, seed: &str, command: &[&str]) -> Option<io::Result<ExitCode>> {
+    let (count, seed) = (count.parse().ok()?, seed.parse().ok()?);
+    Some(fuzz::run(count, seed, command).and_then(|report| {
+        print(report.to_string())?;
+        Ok(match report.difference {
+            None => ExitCode::SUCCESS,
+            Some(_) => ExitCode::FAILURE,
+        })
+    }))
 }
 
 fn test() -> io::Result<ExitCode> {

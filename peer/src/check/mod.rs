@@ -1,11 +1,12 @@
 //! Self checks: stored vectors, published and proved values, round trips of every kind, the
-//! cases on the bench, what the host may do wrong, the traps, and the script program.
+//! cases on the bench, what the host may do wrong, the traps, the script and the frame program.
 
 mod bench;
 mod host;
 mod module;
 mod rules;
 mod script;
+mod spelling;
 mod traps;
 
 use crate::body;
@@ -45,6 +46,7 @@ pub fn run() -> Tally {
     rules::run(&mut tally);
     host::run(&mut tally);
     script::run(&mut tally);
+    spelling::run(&mut tally);
     let random = &mut Random::new(7);
     for kind in 0..KINDS {
         for datl in [0, 1, 2, 7, 30, 253, 254] {

@@ -43,12 +43,71 @@ const FORMS: [(&str, &str); 24] = [
 /// So often every answer comes up in 6,000 lines.
 const OFTEN: usize = 50;
 
+const IN_A_SCRIPT: [(&str, usize); 13] = [
+    ("entered RUN", 50),
+    ("left RUN: sync silence", 10),
+    ("left RUN: command silence", 10),
+    ("left RUN: wrong cycle", 10),
+    ("left RUN: order", 10),
+    ("takeover in RUN", 10),
+    ("wrap in RUN by a sync", 5),
+    ("wrap in RUN by the clock", 5),
+    ("reply: error AAh", 10),
+    ("reply: error 55h", 10),
+    ("bad line", 50),
+    ("repeat on the other port", 50),
+    ("request of a deposed one in cycle 00h to 03h", 5),
+];
+
+const IN_A_LONG_SCRIPT: [(&str, usize); 29] = [
+    ("frame before the first SID", 20),
+    ("recorded", 8),
+    ("takeover in fallback", 10),
+    ("sync in RUN when one was lost: CYC = c + 1", 20),
+    ("sync in RUN when the clock ended the cycle: CYC = c", 20),
+    ("request of a deposed one in Run", 50),
+    ("pending release ended by silence", 10),
+    ("accepted with CONF bit 2", 50),
+    ("CPT_SEQ stays at 255", 20),
+    ("CPT_FOR stays at 255", 20),
+    ("with 64 taken: 13", 20),
+    ("with 64 taken: 14", 20),
+    ("with 64 taken: 15", 50),
+    ("damaged body 1: none at all", 10),
+    ("damaged body 1: short", 10),
+    ("damaged body 1: long", 10),
+    ("damaged body 2: flag", 10),
+    ("damaged body 2: last 7Dh", 10),
+    ("damaged body 2: other byte behind 7Dh", 10),
+    ("damaged body 3: short", 10),
+    ("damaged body 3: long", 10),
+    ("damaged body 4: FCS", 50),
+    ("bad line: empty", 2),
+    ("bad line: over 1,200 characters", 5),
+    ("bad line: CR at the end", 5),
+    ("bad line: no text", 5),
+    ("bad line: no count of ticks", 5),
+    ("bad line: no inputs", 5),
+    ("bad line: no pairs of hex digits", 5),
+];
+
+/// The spans that can be written, and the modes in which they can.
+const SPANS: [(&str, &[&str]); 6] = [
+    ("17h to 17h", &["Fallback", "Run"]),
+    ("18h to 18h", &["Fallback"]),
+    ("1Ah to 1Dh", &["Fallback"]),
+    ("1Eh to 24h", &["Fallback", "Run"]),
+    ("25h to 25h", &["Fallback", "Run"]),
+    ("80h to BFh", &["Run"]),
+];
+
 pub fn run(tally: &mut Tally) {
     example(tally);
     forms(tally);
     long_lines(tally);
     inputs(tally);
     generated(tally);
+    generated_edges(tally);
 }
 
 fn output(program: Program, input: &[u8]) -> String {
@@ -127,7 +186,7 @@ fn inputs(tally: &mut Tally) {
     }
 }
 
-/// The stored scripts must bring up everything often.
+/// The stored script must bring up everything often.
 fn generated(tally: &mut Tally) {
     let script = generate::script(11, 6000);
     let again = generate::script(11, 6000);
@@ -137,19 +196,30 @@ fn generated(tally: &mut Tally) {
         let what = format!("answer {number} comes up often");
         tally.check(census.answers(number) >= OFTEN, &what);
     }
-    for (what, least) in [
-        ("entered RUN", 50),
-        ("left RUN: sync silence", 10),
-        ("left RUN: command silence", 10),
-        ("left RUN: wrong cycle", 10),
-        ("left RUN: order", 10),
-        ("takeover in RUN", 10),
-        ("wrap in RUN by a sync", 5),
-        ("wrap in RUN by the clock", 5),
-        ("reply: error AAh", 10),
-        ("reply: error 55h", 10),
-        ("bad line", 50),
-    ] {
+    for (what, least) in IN_A_SCRIPT {
         tally.check(census.count(what) >= least, what);
+    }
+}
+
+/// The script of the stored trace must bring up each edge too.
+fn generated_edges(tally: &mut Tally) {
+    let census = census::of(&generate::script(12, 20_000));
+    for (what, least) in IN_A_SCRIPT.into_iter().chain(IN_A_LONG_SCRIPT) {
+        tally.check(census.count(what) >= least, what);
+    }
+    for (span, open) in SPANS {
+        for mode in ["Fallback", "Run"] {
+            let taken = if open.contains(&mode) { 0 } else { 16 };
+            for (place, answer) in [
+                ("whole", taken),
+                ("no byte", 16),
+                ("over its start", 16),
+                ("over its end", 16),
+                ("around it", 16),
+            ] {
+                let what = format!("write {span}: {place}: {answer} in {mode}");
+                tally.check(census.count(&what) > 0, &what);
+            }
+        }
     }
 }

@@ -1,12 +1,15 @@
-//! Seeded cases for the case programs (a fixed list of what must come up, then any), and scripts.
+//! Seeded cases for the case programs (a fixed list of what must come up, then any), lines for the
+//! frame program, and scripts.
 
 mod bad;
 mod body_laying;
 mod body_reading;
 mod crc;
-mod damage;
+pub mod damage;
 pub mod draft;
 mod frame_faults;
+mod frame_line_faults;
+mod frame_lines;
 mod frame_reading;
 mod frame_writing;
 mod line;
@@ -15,6 +18,7 @@ pub mod sample;
 mod script;
 pub mod speech;
 
+pub use frame_lines::frame_lines;
 pub use script::script;
 
 use crate::cases::Program;

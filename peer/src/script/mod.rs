@@ -6,7 +6,7 @@ mod lines;
 mod player;
 mod trace;
 
-pub use line::{parse, Line, TICKS_MAX};
+pub use line::{parse, Line, LINE_MAX, TICKS_MAX};
 pub use lines::Lines;
 pub use player::{Played, Player};
 

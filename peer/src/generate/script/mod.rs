@@ -22,12 +22,13 @@ use stage::Stage;
 type Scene = fn(&mut Stage);
 
 /// The scenes and how often each is in a deck.
-const SCENES: [(Scene, usize); 41] = [
+const SCENES: [(Scene, usize); 42] = [
     (cycles::steady, 4),
     (cycles::wrap, 2),
     (takeover::in_run, 5),
     (takeover::in_fallback, 2),
     (takeover::round, 1),
+    (takeover::late_closing, 2),
     (settings::change, 3),
     (settings::refused, 2),
     (settings::references, 3),
@@ -69,15 +70,20 @@ const SCENES: [(Scene, usize); 41] = [
 /// Lines that are no frames, also in every deck.
 const LINE_SCENES: [(Scene, usize); 3] = [(lines::bad, 5), (lines::long, 1), (lines::ports, 8)];
 
-/// Long scenes, each played once, when so many hundredths of the script are done.
+/// Long scenes, each played once in a long script, when so many hundredths of it are done.
 const ONCE: [(usize, Scene); 2] = [(40, cycles::marathon), (60, lines::huge)];
+
+const LONG: usize = 2000;
 
 /// A script of so many lines from power-up.
 pub fn script(seed: u64, count: usize) -> Vec<u8> {
     let mut stage = Stage::new(seed);
     opening::play(&mut stage);
     let mut deck = Vec::new();
-    let mut once = ONCE.to_vec();
+    let mut once = match count >= LONG {
+        true => ONCE.to_vec(),
+        false => Vec::new(),
+    };
     while stage.length() < count {
         let done = 100 * stage.length() / count;
         // All eight concentrators are there when a fifth of the script is done.

@@ -17,7 +17,7 @@ pub const CONCENTRATORS: [u32; 8] = [
 pub fn play(stage: &mut Stage) {
     stage.ticks(254);
     stage.ticks(1);
-    for _ in 0..3 {
+    for _ in 0..1 + stage.random.below(3) {
         too_early(stage);
         faults::line(stage);
         faults::typs(stage);

@@ -34,7 +34,8 @@ const OUTSIDE: [u8; 14] = [
     0x00, 0x07, 0x08, 0x10, 0x13, 0x14, 0x16, 0x19, 0x26, 0x50, 0x7F, 0xC0, 0xFE, 0xFF,
 ];
 
-/// One span in one mode: one before, first, last, one past, crossing each end, the whole, nothing.
+/// One span in one mode: one before, first, last, one past, crossing each end and both, the
+/// whole, nothing.
 pub fn edges(stage: &mut Stage) {
     let play = stage.next_of("spans", &PLAYS);
     let (first, last) = SPANS[play / 2];
@@ -53,6 +54,7 @@ pub fn edges(stage: &mut Stage) {
         (first, whole),
         (first, whole + 1),
         (first - 1, whole + 1),
+        (first - 1, whole + 2),
         (first, 0),
         (last, 0),
     ] {

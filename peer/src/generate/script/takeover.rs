@@ -2,6 +2,7 @@
 
 use super::super::speech;
 use super::cycles::{pass_time, write_outputs};
+use super::manners::TRIES;
 use super::stage::Stage;
 use crate::frame::Head;
 use crate::module::first_seq;
@@ -21,6 +22,33 @@ pub fn in_run(stage: &mut Stage) {
     write_outputs(stage);
     late_sync(stage, old);
     write_outputs(stage);
+}
+
+/// The fault of the notice: about CYC FFh a sync is lost, the clock steps over 255, the next
+/// concentrator's sync comes on both ports, and the closing write of the deposed one comes late.
+pub fn late_closing(stage: &mut Stage) {
+    let Some(next) = stage.passive() else { return };
+    stage.heard_in_fallback(1);
+    let before = stage.random.pick(&[0xFC, 0xFD]);
+    stage.sync(stage.active(), before);
+    stage.reach_run();
+    for _ in 0..TRIES {
+        if stage.running() && stage.agent().cycle != 0xFF {
+            stage.begin_cycle();
+        }
+    }
+    write_outputs(stage);
+    let (old, late) = (stage.active(), stage.head());
+    let cycle = stage.registers().tcyc() as u32;
+    let left = cycle.saturating_sub(stage.agent().in_cycle as u32);
+    stage.ticks(left.min(stage.patience()));
+    let cyc = stage.next_cycle();
+    let sync = speech::sync(next, cyc).body();
+    stage.say_on(1, &sync);
+    stage.say_on(2, &sync);
+    write_outputs(stage);
+    late_writes(stage, old, late);
+    stage.read(64, 0x80);
 }
 
 /// The closing write of the deposed one, in its own cycle and in the new one.

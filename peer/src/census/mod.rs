@@ -1,15 +1,22 @@
 //! How often a script brings up what: answers, the ways into RUN and out of it, and more.
 
+mod bad;
+mod bodies;
+mod writes;
+
 use crate::body;
 use crate::frame::{self, com, Frame};
-use crate::module::{Agent, Mode};
+use crate::module::registers::{CONF, CPT_FOR, CPT_SEQ, SILENT};
+use crate::module::{Agent, Mode, REQUESTS_MAX};
 use crate::script::{parse, Line, Lines, Played, Player};
-use std::collections::BTreeMap;
+use std::collections::{BTreeMap, HashMap};
 use std::fmt;
 
 pub struct Census {
     counts: BTreeMap<String, usize>,
     player: Player,
+    /// The port on which a body was accepted last.
+    accepted: HashMap<Vec<u8>, u8>,
 }
 
 /// A script as bytes.
@@ -17,6 +24,7 @@ pub fn of(script: &[u8]) -> Census {
     let mut census = Census {
         counts: BTreeMap::new(),
         player: Player::power_up(),
+        accepted: HashMap::new(),
     };
     let mut lines = Lines::new(script);
     while let Some(line) = lines.next_line().expect("memory can be read") {
@@ -40,7 +48,10 @@ impl Census {
 
     fn line(&mut self, line: &[u8]) {
         match parse(line) {
-            None => self.add("bad line"),
+            None => {
+                self.add("bad line");
+                self.add(&format!("bad line: {}", bad::form(line)));
+            }
             Some(Line::Ticks(count)) => {
                 self.add("answer  0");
                 (0..count).for_each(|_| self.tick());
@@ -71,20 +82,80 @@ impl Census {
 
     fn play(&mut self, line: Line) {
         let before = self.player.agent.clone();
-        let body = match &line {
-            Line::Frame { body, .. } => body::read(body).ok(),
-            _ => None,
-        };
-        let played = self.player.play_line(line);
+        let played = self.player.play_line(line.clone());
         self.add(&format!("answer {:2}", played.answer));
-        if let Some(body) = body {
-            let (answer, typ) = (played.answer, body.application[0]);
-            self.add(&format!("in {:?}: {answer:2} to {typ:02X}h", before.mode));
-        }
         let after = self.player.agent.clone();
+        if let Line::Frame { port, body } = line {
+            self.frame(port, &body, &before, played.answer);
+            self.held_back(&before, &after, &played);
+        }
         self.modes(&before, &after, &played);
         self.syncs(&before, &after, &played);
         self.replies(&played);
+    }
+
+    fn frame(&mut self, port: u8, received: &[u8], before: &Agent, answer: u8) {
+        if before.recorded.is_empty() {
+            self.add("frame before the first SID");
+        }
+        if let Some(fault) = bodies::fault(received) {
+            self.add(&fault);
+        }
+        if let Ok(body) = body::read(received) {
+            let typ = body.application[0];
+            self.add(&format!("in {:?}: {answer:2} to {typ:02X}h", before.mode));
+        }
+        if let Ok(received) = frame::read(received) {
+            self.request(&received.frame, before, answer);
+        }
+        match answer {
+            0 => drop(self.accepted.insert(received.to_vec(), port)),
+            13 if self
+                .accepted
+                .get(received)
+                .is_some_and(|&first| first != port) =>
+            {
+                self.add("repeat on the other port");
+            }
+            _ => {}
+        }
+    }
+
+    fn request(&mut self, frame: &Frame, before: &Agent, answer: u8) {
+        // Only what the write rules themselves judge.
+        if [0, 16].contains(&answer) {
+            for place in writes::places(frame) {
+                self.add(&format!("{place}: {answer} in {:?}", before.mode));
+            }
+        }
+        let (Frame::SafeRead { head, .. } | Frame::SafeWrite { head, .. }) = *frame else {
+            return;
+        };
+        if before.taken == REQUESTS_MAX && (13..=15).contains(&answer) {
+            self.add(&format!("with 64 taken: {answer}"));
+        }
+        let deposed = before.recorded.contains(&head.src) && before.source != Some(head.src);
+        if answer == 10 && deposed && before.source.is_some() {
+            self.add(&format!("request of a deposed one in {:?}", before.mode));
+            if before.cycle < 4 {
+                self.add("request of a deposed one in cycle 00h to 03h");
+            }
+        }
+    }
+
+    /// What leaves no trace: replies that CONF forbids, counters that have stopped.
+    fn held_back(&mut self, before: &Agent, after: &Agent, played: &Played) {
+        if before.registers[CONF] & SILENT != 0 && played.answer == 0 {
+            self.add("accepted with CONF bit 2");
+        }
+        for (counter, name, answers) in
+            [(CPT_SEQ, "CPT_SEQ", [12, 14]), (CPT_FOR, "CPT_FOR", [7, 7])]
+        {
+            let full = before.registers[counter] == 0xFF && after.registers[counter] == 0xFF;
+            if full && answers.contains(&played.answer) {
+                self.add(&format!("{name} stays at 255"));
+            }
+        }
     }
 
     fn modes(&mut self, before: &Agent, after: &Agent, played: &Played) {
@@ -99,6 +170,12 @@ impl Census {
     /// Takeovers and wraps, seen from what a frame changed.
     fn syncs(&mut self, before: &Agent, after: &Agent, played: &Played) {
         let running = before.mode == Mode::Run && after.mode == Mode::Run;
+        if running && !before.heard && after.heard {
+            self.add(match after.cycle == before.cycle {
+                true => "sync in RUN when the clock ended the cycle: CYC = c",
+                false => "sync in RUN when one was lost: CYC = c + 1",
+            });
+        }
         if running && after.cycle < before.cycle {
             self.add("wrap in RUN by a sync");
         }

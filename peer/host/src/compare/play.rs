@@ -1,0 +1,199 @@
+//! A script on the library's agent, every call compared, with calls between that a script has not.
+
+use crate::alter::{any_bytes, HARMLESS};
+use crate::call::{given, wanted, Call};
+use crate::spoil::WAYS;
+use crate::tally::{room, Tally};
+use host::library::SaturnAgent;
+use host::state;
+use peer::generate::random::Random;
+use peer::generate::{self, sample};
+use peer::module::{Agent, REPLY_ROOM};
+use peer::script::{parse, Line};
+
+/// Calls between, one in so many lines of each sort.
+const UNSOUND: usize = 2;
+const HARMLESS_CHANGE: usize = 30;
+const ANY_BYTES: usize = 4;
+const SHORT_BUFFER: usize = 2;
+const WRONG_HOST: usize = 6;
+
+pub struct Play<'a> {
+    random: Random,
+    seed: u64,
+    line: usize,
+    state: SaturnAgent,
+    /// The next way, and the next short length.
+    way: usize,
+    room: usize,
+    tally: &'a mut Tally,
+}
+
+impl<'a> Play<'a> {
+    pub fn new(seed: u64, tally: &'a mut Tally) -> Play<'a> {
+        let random = Random::new(!seed);
+        Play {
+            seed,
+            line: 0,
+            state: state::laid_out(&Agent::power_up(1, 2, 0), &state::BLANK),
+            way: seed as usize,
+            room: seed as usize * 101 % REPLY_ROOM,
+            random,
+            tally,
+        }
+    }
+
+    /// BAD lines are passed over.
+    pub fn script(&mut self, lines: usize) -> Result<(), String> {
+        let script = generate::script(self.seed, lines);
+        for line in script.split(|&byte| byte == b'\n') {
+            self.line += 1;
+            match parse(line) {
+                None => {}
+                Some(Line::Ticks(count)) => {
+                    for _ in 0..count {
+                        self.keep(&Call::Tick)?;
+                    }
+                    self.between(&Call::Tick)?;
+                }
+                Some(Line::Inputs(inputs)) => self.both(&Call::Inputs(inputs))?,
+                Some(Line::Frame { port, body }) => {
+                    let room = REPLY_ROOM + self.random.pick(&[0, 0, 1, 55]);
+                    self.both(&Call::Frame { port, body, room })?;
+                }
+            }
+        }
+        Ok(())
+    }
+
+    fn both(&mut self, call: &Call) -> Result<(), String> {
+        self.between(call)?;
+        self.keep(call)
+    }
+
+    /// The call on the agent, which goes on from what it leaves.
+    fn keep(&mut self, call: &Call) -> Result<(), String> {
+        let before = self.state;
+        self.state = self.compare(&before, call)?.1;
+        Ok(())
+    }
+
+    /// The answer and the state after it, the same on both sides.
+    fn compare(&mut self, before: &SaturnAgent, call: &Call) -> Result<(u8, SaturnAgent), String> {
+        let (wanted, given) = (wanted(before, call), given(before, call));
+        if given != wanted {
+            let (seed, line) = (self.seed, self.line);
+            return Err(format!(
+                "seed {seed}, line {line}: {call:?}\nbefore {before:?}\nwanted {wanted:?}\ngiven  {given:?}"
+            ));
+        }
+        self.tally.add(&format!("answer {:2}", given.answer));
+        Ok((given.answer, given.state))
+    }
+
+    /// Calls on other states and with other arguments, most of which leave nothing behind.
+    fn between(&mut self, call: &Call) -> Result<(), String> {
+        if self.random.one_in(UNSOUND) {
+            self.unsound(call)?;
+        }
+        if self.random.one_in(ANY_BYTES) {
+            let mut other = self.state;
+            any_bytes(&mut self.random, &mut other);
+            let call = self.some_call(call);
+            self.compare(&other, &call)?;
+            self.tally.add("any bytes");
+        }
+        if self.random.one_in(SHORT_BUFFER) {
+            self.short_buffer(call)?;
+        }
+        if self.random.one_in(WRONG_HOST) {
+            self.wrong_host(call)?;
+        }
+        if self.random.one_in(HARMLESS_CHANGE) {
+            self.harmless(call)?;
+        }
+        Ok(())
+    }
+
+    /// The next way that this state has.
+    fn unsound(&mut self, call: &Call) -> Result<(), String> {
+        for _ in 0..WAYS.len() {
+            self.way += 1;
+            let way = &WAYS[self.way % WAYS.len()];
+            let mut other = self.state;
+            if (way.make)(&mut self.random, &mut other) {
+                let call = self.some_call(call);
+                let (answer, _) = self.compare(&other, &call)?;
+                if answer != 19 {
+                    return Err(format!("{} is answered {answer}: {other:?}", way.name));
+                }
+                self.tally.add(&format!("unsound: {}", way.name));
+                return Ok(());
+            }
+        }
+        Ok(())
+    }
+
+    /// The call itself or one of the others, now and then with a wrong argument too.
+    fn some_call(&mut self, call: &Call) -> Call {
+        let length = self.random.pick(&[0, 63, 64, 64, 64, 65]);
+        match (self.random.below(4), call) {
+            (0, _) => Call::Tick,
+            (1, _) => Call::Inputs(sample::bytes(&mut self.random, length)),
+            (2, Call::Frame { body, .. }) => Call::Frame {
+                port: self.random.pick(&[0, 1, 2, 3]),
+                body: body.clone(),
+                room: self.random.pick(&[0, 544, 545, 545]),
+            },
+            _ => call.clone(),
+        }
+    }
+
+    /// The next length, on a port that may be wrong too.
+    fn short_buffer(&mut self, call: &Call) -> Result<(), String> {
+        let Call::Frame { port, body, .. } = call else {
+            return Ok(());
+        };
+        self.room = (self.room + 1) % REPLY_ROOM;
+        let other = self.random.byte();
+        let short = Call::Frame {
+            port: self.random.pick(&[*port, *port, other]),
+            body: body.clone(),
+            room: self.room,
+        };
+        let before = self.state;
+        self.compare(&before, &short)?;
+        self.tally.add(&room(self.room));
+        Ok(())
+    }
+
+    /// Any port with the body at hand, and inputs of any length.
+    fn wrong_host(&mut self, call: &Call) -> Result<(), String> {
+        let before = self.state;
+        if let Call::Frame { body, .. } = call {
+            let (port, body) = (self.random.byte(), body.clone());
+            let room = REPLY_ROOM;
+            self.compare(&before, &Call::Frame { port, body, room })?;
+            self.tally.add("any port");
+        }
+        let length = self.random.below(200);
+        let inputs = sample::bytes(&mut self.random, length);
+        self.compare(&before, &Call::Inputs(inputs))?;
+        self.tally.add("inputs of any length");
+        Ok(())
+    }
+
+    /// The agent goes on from the altered state, if it is sound.
+    fn harmless(&mut self, call: &Call) -> Result<(), String> {
+        let place = self.random.below(HARMLESS.len());
+        let (name, change) = HARMLESS[place];
+        let mut other = self.state;
+        change(&mut self.random, &mut other);
+        let (answer, after) = self.compare(&other, call)?;
+        if answer != 19 {
+            self.tally.add(&format!("sound: {name}"));
+            self.state = after;
+        }
+        Ok(())
+    }
+}

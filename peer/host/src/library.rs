@@ -1,0 +1,39 @@
+//! The static library as `include/saturn.h` declares it.
+
+pub const RECORDED_MAX: usize = 8;
+
+#[repr(C)]
+#[derive(Clone, Copy, Debug, PartialEq, Eq)]
+pub struct SaturnAgent {
+    pub regs: [u8; 256],
+    pub known: [u32; RECORDED_MAX],
+    pub last: u32,
+    pub silence: u16,
+    pub idle: u16,
+    pub cycle: u8,
+    pub elapsed: u8,
+    pub taken: u8,
+    pub mode: u8,
+    pub heard: u8,
+    pub count: u8,
+}
+
+const _: () = assert!(size_of::<SaturnAgent>() == 304);
+
+pub const FALLBACK: u8 = 0;
+pub const RUN: u8 = 1;
+
+extern "C" {
+    pub fn saturn_power_up(agent: *mut SaturnAgent, mac: u64, iid: u64, ver: u16);
+    pub fn saturn_tick(agent: *mut SaturnAgent) -> u8;
+    pub fn saturn_inputs(agent: *mut SaturnAgent, inputs: *const u8, length: usize) -> u8;
+    pub fn saturn_frame(
+        agent: *mut SaturnAgent,
+        port: u8,
+        body: *const u8,
+        body_length: usize,
+        reply: *mut u8,
+        reply_length: usize,
+        sent: *mut u16,
+    ) -> u8;
+}

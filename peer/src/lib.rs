@@ -1,0 +1,18 @@
+//! The parts of the second implementation, for its own program and for the programs in `host/`.
+
+pub mod body;
+pub mod cases;
+pub mod census;
+pub mod check;
+pub mod crc;
+pub mod fields;
+pub mod frame;
+pub mod fuzz;
+pub mod generate;
+pub mod hex;
+pub mod module;
+pub mod refusal;
+pub mod script;
+pub mod spelling;
+pub mod stuffing;
+pub mod vectors;
