@@ -1,0 +1,4 @@
+pub mod FormLaws
+pub mod DoingLaws
+pub mod PrintingLaws
+pub mod PlayingLaws

@@ -1,0 +1,4 @@
+pub mod Forms
+pub mod Doing
+pub mod Printing
+pub mod Playing
