@@ -24,6 +24,10 @@ abbrev pub shown : View → Player → Step → List ℕ
 shown view p s = printed view (numberOf p) (isBad s) (done (p .agent) s)
 
 -- the lines of a script, and what it prints whole
+abbrev pub playedAll : Player → List (List ℕ) → Player
+playedAll p [] = p
+playedAll p (l ∷ ls) = playedAll (after p (lineOf l)) ls
+
 abbrev pub shownAll : View → Player → List (List ℕ) → List ℕ
 shownAll view p [] = []
 shownAll view p (l ∷ ls) = shown view p (lineOf l) ++ shownAll view (after p (lineOf l)) ls
