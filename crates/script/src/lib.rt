@@ -1,7 +1,7 @@
 // Scripts: lines that drive a module from power-up, and what is printed for each.
 mod doing;
 mod forms;
-mod playing;
+pub mod playing;
 mod printing;
 mod running;
 
