@@ -2,3 +2,4 @@ pub mod Forms
 pub mod Doing
 pub mod Printing
 pub mod Playing
+pub mod Running

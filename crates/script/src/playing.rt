@@ -51,7 +51,7 @@ fn show(
     reply: &[u8; 545],
 ) -> usize
     requires { ⌜ h .sent ≤ 545 ⌝ }
-    ensures { λ r. ⌜ (r ≡ placeAfter (length (now (out .entry))) at (printed view number bad (told h (now (reply .entry))))) × (now (out .exit) ≡ putAt (now (out .entry)) at (printed view number bad (told h (now (reply .entry))))) ⌝ }
+    ensures { λ r. ⌜ (length (printed view number bad (told h (now (reply .entry)))) ≤ 1700) × (r ≡ placeAfter (length (now (out .entry))) at (printed view number bad (told h (now (reply .entry))))) × (now (out .exit) ≡ putAt (now (out .entry)) at (printed view number bad (told h (now (reply .entry))))) ⌝ }
 {
     let mut text = no_text();
     let n = put_line(&mut text, view, number, bad, h, reply);
@@ -66,7 +66,7 @@ fn play_form(
     out: &mut [u8],
     at: usize,
 ) -> Played
-    ensures { λ r. ⌜ (r .player ≡ after p (stepIn form (now (bytes .entry)))) × (r .next ≡ placeAfter (length (now (out .entry))) at (shown view p (stepIn form (now (bytes .entry))))) × (now (out .exit) ≡ putAt (now (out .entry)) at (shown view p (stepIn form (now (bytes .entry))))) ⌝ }
+    ensures { λ r. ⌜ (length (shown view p (stepIn form (now (bytes .entry)))) ≤ 1700) × (r .player ≡ after p (stepIn form (now (bytes .entry)))) × (r .next ≡ placeAfter (length (now (out .entry))) at (shown view p (stepIn form (now (bytes .entry))))) × (now (out .exit) ≡ putAt (now (out .entry)) at (shown view p (stepIn form (now (bytes .entry))))) ⌝ }
 {
     let agent = p.agent;
     let mut reply = no_reply();
@@ -90,7 +90,7 @@ pub fn play_line(
     out: &mut [u8],
     at: usize,
 ) -> Played
-    ensures { λ r. ⌜ (r .player ≡ after p (lineIn (now (line .entry)) len)) × (r .next ≡ placeAfter (length (now (out .entry))) at (shown view p (lineIn (now (line .entry)) len))) × (now (out .exit) ≡ putAt (now (out .entry)) at (shown view p (lineIn (now (line .entry)) len))) ⌝ }
+    ensures { λ r. ⌜ (length (shown view p (lineIn (now (line .entry)) len)) ≤ 1700) × (r .player ≡ after p (lineIn (now (line .entry)) len)) × (r .next ≡ placeAfter (length (now (out .entry))) at (shown view p (lineIn (now (line .entry)) len))) × (now (out .exit) ≡ putAt (now (out .entry)) at (shown view p (lineIn (now (line .entry)) len))) ⌝ }
 {
     let mut bytes = no_bytes();
     let form = read_line(line, len, &mut bytes);

@@ -1,6 +1,15 @@
 // Standard input, line by line, to standard output.
+ghost use mathlib.Core.Path.{_≡_};
+ghost use Prim.Native.Nat.{_+_, _≤_};
+ghost use lib.ListN.{length};
+ghost use Rattle.script.specs.Forms.{lineIn};
+ghost use Rattle.script.specs.Printing.{Wrote};
+ghost use Rattle.script.specs.Playing.{after, shown};
+ghost use Rattle.script.specs.Running.{HasRoom};
 use crate::playing;
+use crate::playing::Played;
 use crate::playing::Player;
+use crate::playing::play_line;
 use crate::printing;
 use crate::printing::MOST;
 use crate::printing::View;
@@ -41,7 +50,9 @@ enum Place {
 }
 
 // Room for one more line: where it is short, what stands is written first.
-fn make_room(out: &[u8], to: usize) -> Place {
+fn make_room(out: &[u8], to: usize) -> Place
+    ensures { λ r. ⌜ HasRoom r (length (now (out .entry))) ⌝ }
+{
     if out.len() < MOST {
         return Place::Closed;
     }
@@ -62,6 +73,14 @@ fn closed(player: Player) -> Fed {
     }
 }
 
+// A line's text goes to its place whole.
+fn play_whole(p: Player, view: View, line: &[u8], len: usize, out: &mut [u8], at: usize) -> Played
+    requires { ⌜ at + 1700 ≤ length (now out) ⌝ }
+    ensures { λ r. ⌜ (r .player ≡ after p (lineIn (now (line .entry)) len)) × Wrote (now (out .entry)) at (shown view p (lineIn (now (line .entry)) len)) (r .next) (now (out .exit)) ⌝ }
+{
+    play_line(p, view, line, len, out, at)
+}
+
 // The lines of a block.
 fn feed(view: View, player: Player, block: &[u8], line: &mut [u8], len: usize) -> Fed {
     let mut out = no_output();
@@ -75,7 +94,7 @@ fn feed(view: View, player: Player, block: &[u8], line: &mut [u8], len: usize) -
                 let Place::At(place) = make_room(&out, to) else {
                     return closed(p);
                 };
-                let played = playing::play_line(p, view, line, k, &mut out, place);
+                let played = play_whole(p, view, line, k, &mut out, place);
                 p = played.player;
                 to = played.next;
                 n = 0;
@@ -95,7 +114,7 @@ fn last(view: View, player: Player, line: &[u8], len: usize) {
         return;
     }
     let mut out = printing::no_text();
-    let played = playing::play_line(player, view, line, len, &mut out, 0);
+    let played = play_whole(player, view, line, len, &mut out, 0);
     write_first(&out, played.next);
 }
 

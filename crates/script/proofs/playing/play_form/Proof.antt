@@ -1,5 +1,5 @@
 -- `playing::play_form` meets its contract. Assumes nothing.
-use Rattle.script.proofs.PlayingLaws.{form-played}
+use Rattle.script.proofs.PlayingLaws.{shown-length, form-played}
 use borrow.Author.Needs.{needs}
 use Rattle.script.proofs.playing.play_form.Statement.{statement}
 use Rattle.script.proofs.playing.play_form.Tie as tie
@@ -26,9 +26,12 @@ returns : tie.Need-returns
 returns c =
     let a = c .before .before .before .before .before .before .before .before .before .before .before .before .before .before .args in
     let d = c .before .before .before .before .before .before .before .before .do-form in
+    let w = c .before .before .before .show in
+    let l = shown-length (a .p) (a .view) (a .form) (a .bytes .now) (d .result) (d .last .1 .1 .1 .0) (c .before .before .before .before .before .before .before .wrapping-add-u64 .result) (c .before .before .before .before .before .is-bad .result)
+    (d .ensures .1) (c .before .before .before .before .before .before .before .wrapping-add-u64 .ensures) (c .before .before .before .before .before .is-bad .ensures) (w .ensures .0) in
     let e = form-played (a .p) (a .view) (a .form) (a .bytes .now) (d .result) (d .last .1 .1 .1 .0) (c .before .before .before .before .before .before .before .wrapping-add-u64 .result) (c .before .before .before .before .before .is-bad .result)
-    (d .ensures .1) (c .before .before .before .before .before .before .before .wrapping-add-u64 .ensures) (c .before .before .before .before .before .is-bad .ensures) (a .out .now) (a .at) (c .before .before .before .show .result) (c .before .before .before .show .last .0) (c .before .before .before .show .ensures) in
-    (e .0, e .1 .0, e .1 .1)
+    (d .ensures .1) (c .before .before .before .before .before .before .before .wrapping-add-u64 .ensures) (c .before .before .before .before .before .is-bad .ensures) (a .out .now) (a .at) (w .result) (w .last .0) (w .ensures .1, w .ensures .2) in
+    (l, e .0, e .1 .0, e .1 .1)
 
 pub play-form-spec : {M : Type 1} → statement M
 play-form-spec =

@@ -48,9 +48,11 @@ returns c =
     let s = c .before .before .before .before .before .before .before .before .before .before .before in
     let a = s .args in
     let p = c .before .before .before .before .before .before .put-line in
+    let l = fits (c .before .before .before .before .before .before .before) in
     let room : length (c .before .before .before .before .before .before .before .before .before .no-text .result) ≡ 1700 = search needs in
-    same-put _ _ _ _ _ _ (wrote-front (c .before .before .before .before .before .before .before .before .before .no-text .result) (printed (a .view) (a .number) (a .bad) (told (a .h) (a .reply .now))) _ _ (omega (arith, fits (c .before .before .before .before .before .before .before))) (p .ensures))
-    (c .before .before .put-text .ensures)
+    let e = same-put _ _ _ _ _ _ (wrote-front (c .before .before .before .before .before .before .before .before .before .no-text .result) (printed (a .view) (a .number) (a .bad) (told (a .h) (a .reply .now))) _ _ (omega (arith, l)) (p .ensures))
+    (c .before .before .put-text .ensures) in
+    (l, e .0, e .1)
 
 pub show-spec : {M : Type 1} → statement M
 show-spec =

@@ -47,11 +47,11 @@ same-length c = search needs
 returns : tie.Need-returns Inv-loop μ-loop
 returns c = search needs
 
-slice-aggregate-play-line : tie.Need-slice-aggregate-play-line Inv-loop μ-loop
-slice-aggregate-play-line c = search needs
+slice-aggregate-play-whole : tie.Need-slice-aggregate-play-whole Inv-loop μ-loop
+slice-aggregate-play-whole c = search needs
 
-play-line-requires : tie.Need-play-line-requires Inv-loop μ-loop
-play-line-requires c κs = search needs
+play-whole-requires : tie.Need-play-whole-requires Inv-loop μ-loop
+play-whole-requires c κs = rw (c .before .before .before .place .given .1) at (c .before .before .before .before .before .make-room .ensures)
 
 loop-less : tie.Need-loop-less Inv-loop μ-loop
 loop-less c =
@@ -59,7 +59,7 @@ loop-less c =
     omega (arith, f .0, f .1)
 
 loop-again : tie.Need-loop-again Inv-loop μ-loop
-loop-again c = (c .before .before .before .before .before .before .before .before .before .before .before .before .before .before .before .take-line .kept .1 .1 .0 ∙ c .before .before .before .before .before .before .before .before .before .before .before .before .before .before .before .before .before .before .loop .inv .0, c .before .before .play-line .kept .1 .1 .1 .1 .0 ∙ c .before .before .before .before .before .before .before .before .before .before .before .before .before .before .before .before .before .before .loop .inv .1)
+loop-again c = (c .before .before .before .before .before .before .before .before .before .before .before .before .before .before .before .take-line .kept .1 .1 .0 ∙ c .before .before .before .before .before .before .before .before .before .before .before .before .before .before .before .before .before .before .loop .inv .0, c .before .before .play-whole .kept .1 .1 .1 .1 .0 ∙ c .before .before .before .before .before .before .before .before .before .before .before .before .before .before .before .before .before .before .loop .inv .1)
 
 enum-known-k-2 : tie.Need-enum-known-k-2 Inv-loop μ-loop
 enum-known-k-2 c = search needs
@@ -105,8 +105,8 @@ feed-spec =
     closed-requires
     same-length
     returns
-    slice-aggregate-play-line
-    play-line-requires
+    slice-aggregate-play-whole
+    play-whole-requires
     loop-less
     loop-again
     enum-known-k-2
