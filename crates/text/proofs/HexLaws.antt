@@ -155,3 +155,18 @@ read-within m n (some bs) e = by (ltb m (length bs)) refl
         let f : Bytes n ≡ Bytes (length bs) = rw k at e in
         let q : n ≡ length bs = cc in
         omega (arith, ltb-false m (length bs) k)
+
+-- two characters a byte
+pub pairs-length : (s bs : List ℕ) → hexPairs s ≡ some bs → length s ≡ length bs * 2
+unfolding hexPairs
+pairs-length [] bs e = let q : bs ≡ [] = cc in rw q
+pairs-length (a ∷ []) bs e = absurd (let z : _≡_ {A = ℕ} 0 1 = cc in omega arith)
+pairs-length (a ∷ b ∷ s) bs e = by (λ o d. pairs-length s o d) (pairOf a b) (hexPairs s) refl e
+  where
+    by : ((o : List ℕ) → hexPairs s ≡ some o → length s ≡ length o * 2) → (p : Pair) (o : Option (List ℕ)) → hexPairs s ≡ o
+        → paired p o ≡ some bs → suc (suc (length s)) ≡ length bs * 2
+    by r (Byte x) none d f = absurd (let z : _≡_ {A = ℕ} 0 1 = cc in omega arith)
+    by r (Byte x) (some o) d f =
+        let q : bs ≡ x ∷ o = cc in
+        omega (arith, r o d, ap length q)
+    by r Other o d f = absurd (let z : _≡_ {A = ℕ} 0 1 = cc in omega arith)

@@ -1,5 +1,7 @@
 pub mod HexLaws
 pub mod HexBothWays
+pub mod DecimalLaws
+pub mod DecimalBothWays
 pub mod LineLaws
 pub mod Blocks
 pub mod PuttingLaws

@@ -1,5 +1,5 @@
 -- Laws of text put at a place: what fits and what not, and a turn of the loop over bytes. Assumes nothing.
-use mathlib.Core.Path.{_≡_, refl, sym, ap, _∙_}
+use mathlib.Core.Path.{_≡_, refl, sym, ap, ap₂, _∙_}
 use mathlib.Core.Bool.{Bool, true, false}
 use mathlib.Core.List.{List, [], _∷_, _++_}
 use Prim.Native.Nat.{ℕ, _+_, _-_, _*_, _≤_, _<_}
@@ -36,6 +36,24 @@ module _ (buf : List ℕ) (at : ℕ) (text : List ℕ) where
   pub put-not : leb (at + length text) (length buf) ≡ false → Put at buf
   unfolding putAt placeAfter
   put-not t = (rw t, rw t)
+
+  -- a text that is put whole
+  abbrev pub Wrote : ℕ → List ℕ → Type 0
+  Wrote r out = (r ≡ at + length text) × (out ≡ sets buf at text)
+
+  pub put-whole : at + length text ≤ length buf → (r : ℕ) (out : List ℕ) → Put r out → Wrote r out
+  unfolding putAt placeAfter
+  put-whole h r out p =
+      let t : leb (at + length text) (length buf) ≡ true = le-leb _ _ h in
+      (p .0 ∙ rw t, p .1 ∙ rw t)
+
+-- one text behind another
+pub wrote-both : (buf : List ℕ) (at : ℕ) (s : List ℕ) (r : ℕ) (out t : List ℕ) (r′ : ℕ) (out′ : List ℕ)
+    → Wrote buf at s r out → Wrote out r t r′ out′ → Wrote buf at (s ++ t) r′ out′
+wrote-both buf at s r out t r′ out′ p q = (
+  omega (arith, p .0, q .0, length-append s t),
+  q .1 ∙ ap₂ (λ (x : List ℕ) (n : ℕ). sets x n t) (p .1) (p .0) ∙ sym (sets-append buf at s t),
+)
 
 -- ---- bytes in hex
 pub digits-two : (b : ℕ) → length (hexDigits b) ≡ 2

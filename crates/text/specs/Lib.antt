@@ -1,3 +1,4 @@
 pub mod Hex
+pub mod Decimal
 pub mod Lines
 pub mod Putting

@@ -1,0 +1,5 @@
+pub mod Forms
+pub mod Doing
+pub mod Printing
+pub mod Playing
+pub mod Running
