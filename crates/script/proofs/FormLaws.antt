@@ -3,22 +3,21 @@ use mathlib.Core.Path.{_≡_, refl, sym, ap, _∙_}
 use mathlib.Core.Bool.{Bool, true, false}
 use mathlib.Core.List.{List, [], _∷_, _++_}
 use mathlib.Core.Option.{Option, none, some}
-use Prim.Native.Nat.{ℕ, _-_, _*_, _≤_, _<_}
+use Prim.Native.Nat.{ℕ, _-_, _≤_, _<_}
 use native.Mathlib.Omega.{arith}
-use borrow.Author.Tests.{eq-eqb, ne-eqb, lt-ltb, le-ltb, ltb-true, ltb-false}
+use borrow.Author.Tests.{eq-eqb, ne-eqb, lt-ltb, le-ltb}
 use lib.Dec.{eqb, ltb}
 use lib.ListN.{length, take, drop, getD, length-drop}
 use lib.Seq.{take-at}
-use Rattle.base.specs.Choice.{choose, within}
+use Rattle.base.specs.Choice.{within}
 use Rattle.base.proofs.Choosing.{absurdly}
 use Rattle.text.specs.Decimal.{decimalOf}
 use Rattle.text.specs.Hex.{hexPairs, hexOf, hexLeft}
 use Rattle.text.specs.declared.decimal.Decimal.{Decimal}
 use Rattle.text.specs.declared.decimal.Decimal.the-variants.{Number, NotNumber}
-use Rattle.text.specs.declared.hex.Hex.{Hex}
 use Rattle.text.specs.declared.hex.Hex.the-variants.{Bytes, NotHex, NoRoom}
 use Rattle.text.proofs.HexLaws.{pairs-length}
-use Rattle.script.specs.Forms.{Step, ticks, frame, inputs, bad, ticksOf, frameOf, inputsOf, formOf, lineOf, lineIn, stepIn, isBad, isBadForm, ticksForm}
+use Rattle.script.specs.Forms.{Step, inputs, bad, ticksOf, frameOf, inputsOf, formOf, lineOf, lineIn, stepIn, isBad, isBadForm, ticksForm}
 use Rattle.script.specs.declared.forms.Form.{Form}
 use Rattle.script.specs.declared.forms.Form.the-variants.{Ticks, Frame, Inputs, Bad}
 

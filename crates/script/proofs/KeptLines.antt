@@ -11,7 +11,7 @@ use lib.Seq.{sets, length-sets, take-at}
 use Rattle.base.proofs.Sets.{sets-front}
 use Rattle.text.specs.Lines.{counted}
 use Rattle.text.proofs.LineLaws.{counted-past, counted-within}
-use Rattle.script.specs.Forms.{Step, bad, lineOf, lineIn}
+use Rattle.script.specs.Forms.{lineOf, lineIn}
 use Rattle.script.proofs.FormLaws.{text-long, line-long, line-held}
 
 -- what `take_line` leaves of the characters of a line: stored from the start on, and their count as it is told

@@ -1,5 +1,5 @@
 -- Laws of a script's lines: the player behind one, and its text. Assumes nothing.
-use mathlib.Core.Path.{_≡_, refl, sym, ap, _∙_}
+use mathlib.Core.Path.{_≡_, ap, _∙_}
 use mathlib.Core.Bool.{Bool}
 use mathlib.Core.List.{List}
 use Prim.Native.Nat.{ℕ, _+_, _≤_}
@@ -8,7 +8,7 @@ use lib.ListN.{length}
 use Rattle.text.proofs.PuttingLaws.{Put, put-whole}
 use Rattle.rules.specs.Replies.{Outcome}
 use Rattle.agent.specs.declared.calls.Handled.{Handled}
-use Rattle.script.specs.Forms.{stepIn, isBad, isBadForm}
+use Rattle.script.specs.Forms.{stepIn, isBadForm}
 use Rattle.script.specs.Doing.{done, told}
 use Rattle.script.specs.Printing.{printed, Wrote}
 use Rattle.script.specs.Playing.{numberOf, after, shown}

@@ -1,10 +1,9 @@
 -- The script's module is good behind every line, whatever the lines are: so every tick and every input is answered 0, as
 -- the definition prints it, and no line prints 19. Assumes nothing.
-use mathlib.Core.Path.{_≡_, refl}
-use mathlib.Core.Bool.{Bool, true, false}
+use mathlib.Core.Path.{_≡_}
 use mathlib.Core.List.{List, [], _∷_}
 use mathlib.Core.Option.{Option, none, some}
-use Prim.Native.Nat.{ℕ, zero, suc, _+_, _*_, _-_, _≤_, _<_}
+use Prim.Native.Nat.{ℕ, zero, suc, _-_, _≤_, _<_}
 use native.Mathlib.Omega.{arith}
 use borrow.Author.Tests.{eq-eqb, eqb-true, ltb-false}
 use lib.Dec.{eqb, ltb}
@@ -12,7 +11,7 @@ use lib.ListN.{length, drop, getD}
 use Rattle.base.specs.Bytes.{Bytes}
 use Rattle.base.specs.Choice.{within}
 use Rattle.base.proofs.Bytes.{bytes-nil, bytes-cons}
-use Rattle.base.proofs.Choosing.{absurdly, by-test}
+use Rattle.base.proofs.Choosing.{by-test}
 use Rattle.text.specs.Decimal.{decimalOf}
 use Rattle.text.specs.Hex.{digitValue, pairOf, paired, hexPairs}
 use Rattle.text.specs.declared.decimal.Decimal.{Decimal}

@@ -2,7 +2,6 @@
 use mathlib.Core.List.{List, [], _∷_, _++_}
 use Prim.Native.Nat.{ℕ, _+_, _%_, _^_}
 use Rattle.rules.specs.PowerUp.{powerUp}
-use Rattle.rules.specs.Replies.{Outcome}
 use Rattle.script.specs.Forms.{Step, isBad, lineOf}
 use Rattle.script.specs.Doing.{done}
 use Rattle.script.specs.Printing.{headerOf, printed}

@@ -1,6 +1,6 @@
 // What is printed for a line, put together in a buffer that has room for the longest.
 ghost use mathlib.Core.Path.{_≡_};
-ghost use Prim.Native.Nat.{_+_, _*_, _≤_};
+ghost use Prim.Native.Nat.{_+_, _≤_};
 ghost use lib.ListN.{length, take, replicate};
 ghost use Rattle.text.specs.Putting.{putAt, placeAfter};
 ghost use Rattle.script.specs.Doing.{told};

@@ -13,7 +13,6 @@ use lib.Seq.{drop-cons, drop-set-lt, getD-set-same}
 use Rattle.base.proofs.Choosing.{by-test}
 use Rattle.text.specs.Hex.{digitValue}
 use Rattle.text.specs.Decimal.{digitsFrom, upTo, decimalOf, digits, decimalText}
-use Rattle.text.specs.declared.decimal.Decimal.{Decimal}
 use Rattle.text.specs.declared.decimal.Decimal.the-variants.{Number, NotNumber}
 
 -- ---- reading

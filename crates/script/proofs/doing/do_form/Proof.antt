@@ -1,5 +1,4 @@
 -- `doing::do_form` meets its contract: by the form. Assumes nothing.
-use mathlib.Core.Path.{_∙_, ap}
 use Rattle.script.proofs.DoingLaws.{told-accepted}
 use borrow.Author.Needs.{needs}
 use Rattle.script.proofs.doing.do_form.Statement.{statement}

@@ -1,5 +1,4 @@
 -- `playing::play_line` meets its contract. Assumes nothing.
-
 use borrow.Author.Needs.{needs}
 use Rattle.script.proofs.playing.play_line.Statement.{statement}
 use Rattle.script.proofs.playing.play_line.Tie as tie

@@ -1,5 +1,4 @@
 -- `playing::start` meets its contract. Assumes nothing.
-
 use borrow.Author.Needs.{needs}
 use Rattle.script.proofs.playing.start.Statement.{statement}
 use Rattle.script.proofs.playing.start.Tie as tie

@@ -1,8 +1,7 @@
 -- `printing::put_fields` meets its contract. Assumes nothing.
 use native.Mathlib.Omega.{arith}
 use mathlib.Core.Path.{_≡_}
-use Prim.Native.Nat.{_≤_}
-use lib.ListN.{length, take}
+use lib.ListN.{length}
 use lib.Seq.{length-take-le}
 use Rattle.script.specs.Doing.{told}
 use Rattle.script.proofs.PrintingLaws.{answer-room, state-room, fields-wrote}

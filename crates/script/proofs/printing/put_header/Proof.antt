@@ -1,5 +1,4 @@
 -- `printing::put_header` meets its contract. Assumes nothing.
-
 use borrow.Author.Needs.{needs}
 use Rattle.script.proofs.printing.put_header.Statement.{statement}
 use Rattle.script.proofs.printing.put_header.Tie as tie

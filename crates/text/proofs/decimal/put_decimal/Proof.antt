@@ -1,13 +1,11 @@
 -- `decimal::put_decimal` meets its contract. Assumes nothing.
 use mathlib.Core.Path.{_≡_, _∙_}
-use mathlib.Core.List.{List}
 use Prim.Native.Nat.{_-_}
 use native.Mathlib.Omega.{arith}
 use lib.ListN.{take, drop, length-drop}
 use lib.Seq.{take-all}
 use Rattle.text.specs.Decimal.{decimalText}
 use Rattle.text.proofs.DecimalLaws.{text-zero, text-digits}
-use Rattle.text.proofs.PuttingLaws.{Put}
 use borrow.Author.Needs.{needs}
 use Rattle.text.proofs.decimal.put_decimal.Statement.{statement}
 use Rattle.text.proofs.decimal.put_decimal.Tie as tie

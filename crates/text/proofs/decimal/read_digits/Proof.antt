@@ -1,7 +1,6 @@
 -- `decimal::read_digits` meets its contract. The invariant: the number so far, with the digits of the rest, gives the whole. Assumes nothing.
 use mathlib.Core.Path.{_≡_, refl, sym, ap, _∙_}
 use Prim.Native.Nat.{_-_, _≤_}
-use native.Mathlib.Omega.{arith}
 use lib.ListN.{length, drop, drop-of-length-le}
 use Rattle.text.specs.Decimal.{digitsFrom, upTo}
 use Rattle.text.proofs.DecimalLaws.{past-limit, within-limit, digit-other, digit-more}
