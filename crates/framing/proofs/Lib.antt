@@ -1,0 +1,7 @@
+pub mod WordLaws
+pub mod RowLaws
+pub mod BuildingLaws
+pub mod ExplainingLaws
+pub mod HexCount
+pub mod OutcomeLaws
+pub mod GrammarLaws
