@@ -16,10 +16,10 @@ use Rattle.frames.specs.Writing.{frameLine, writtenOf}
 use Rattle.frames.specs.declared.kinds.Frame.{Frame}
 use Rattle.frames.specs.declared.reading.Reading.the-variants as reading
 use Rattle.frames.proofs.Sending.{sent-says}
-use Rattle.framing.specs.Texts.{noText, put}
+use Rattle.frame_fields.specs.Texts.{noText, put}
 use Rattle.framing.specs.Said.{refusedText}
 use Rattle.framing.specs.Answers.{byLaid, frameBuilt}
-use Rattle.framing.specs.declared.texts.Text.{Text}
+use Rattle.frame_fields.specs.declared.texts.Text.{Text}
 
 module _ (a : ℕ) (f : Frame) (xs : List ℕ) where
   line : List ℕ

@@ -13,14 +13,14 @@ use Rattle.text.specs.Putting.{hexText}
 use Rattle.frames.specs.declared.kinds.Frame.{Frame}
 use Rattle.frames.specs.Reading.{readFrame}
 use Rattle.frames.specs.declared.reading.Received.{Received}
-use Rattle.framing.specs.Chars.{chars}
-use Rattle.framing.specs.Words.{wordAt}
-use Rattle.framing.specs.Table.{fieldsFrom, fieldsOf, hasData, kindWord}
-use Rattle.framing.specs.Texts.{noText, put, puts}
-use Rattle.framing.specs.Numbers.{kindOf, numbersOf}
+use Rattle.frame_fields.specs.Chars.{chars}
+use Rattle.frame_fields.specs.Words.{wordAt}
+use Rattle.frame_fields.specs.Table.{fieldsFrom, fieldsOf, hasData, kindWord}
+use Rattle.frame_fields.specs.Texts.{noText, put, puts}
+use Rattle.frame_fields.specs.Numbers.{kindOf, numbersOf}
 use Rattle.framing.specs.Answers.{putField, putFields, dataOf, frameText, byReading, explainedText}
-use Rattle.framing.specs.declared.texts.Text.{Text}
-use Rattle.framing.proofs.RowLaws.{fields-turn, fields-end}
+use Rattle.frame_fields.specs.declared.texts.Text.{Text}
+use Rattle.frame_fields.proofs.RowLaws.{fields-turn, fields-end}
 
 -- the w bytes of a number, stored at the start
 pub stored-bytes : (buf : List ℕ) (w n : ℕ) → w ≤ length buf → take w (sets buf 0 (bytesOf w n)) ≡ bytesOf w n

@@ -4,14 +4,14 @@ use mathlib.Core.Bool.{true, false}
 use mathlib.Core.List.{List, [], _∷_}
 use Prim.Native.Nat.{ℕ, _+_, _-_, _*_, _≤_, _<_}
 use lib.ListN.{getD}
-use Rattle.framing.specs.Chars.{chars}
-use Rattle.framing.specs.Words.{wordAt}
-use Rattle.framing.specs.Table.{fieldsFrom, fieldsOf, hasData, kindWord}
-use Rattle.framing.specs.Texts.{noText, put}
+use Rattle.frame_fields.specs.Chars.{chars}
+use Rattle.frame_fields.specs.Words.{wordAt}
+use Rattle.frame_fields.specs.Table.{fieldsFrom, fieldsOf, hasData, kindWord}
+use Rattle.frame_fields.specs.Texts.{noText, put}
 use Rattle.framing.specs.Answers.{formField, formFields, formText}
-use Rattle.framing.specs.declared.table.Kind.{Kind}
-use Rattle.framing.specs.declared.texts.Text.{Text}
-use Rattle.framing.proofs.RowLaws.{fields-turn, fields-end}
+use Rattle.frame_fields.specs.declared.table.Kind.{Kind}
+use Rattle.frame_fields.specs.declared.texts.Text.{Text}
+use Rattle.frame_fields.proofs.RowLaws.{fields-turn, fields-end}
 
 module _ (names digits : List ℕ) (i n : ℕ) (t : Text) where
   pub form-turn : i < n → formFields (fieldsFrom names digits i (n - i)) t

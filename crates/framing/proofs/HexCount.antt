@@ -16,10 +16,10 @@ use Rattle.text.specs.declared.hex.Pair.{Pair}
 use Rattle.text.specs.declared.hex.Pair.the-variants.{Byte, Other}
 use Rattle.text.specs.declared.hex.Hex.{Hex}
 use Rattle.text.specs.declared.hex.Hex.the-variants.{Bytes, NotHex, NoRoom}
-use Rattle.framing.specs.Chars.{chars}
-use Rattle.framing.specs.Words.{wordIn, wordAt, starts}
-use Rattle.framing.specs.Rows.{dataWord, dataAt}
-use Rattle.framing.proofs.WordLaws.{word-shorter}
+use Rattle.frame_fields.specs.Chars.{chars}
+use Rattle.frame_fields.specs.Words.{wordIn, wordAt, starts}
+use Rattle.frame_fields.specs.Rows.{dataWord, dataAt}
+use Rattle.frame_fields.proofs.WordLaws.{word-shorter}
 
 -- at most so many characters, two for each byte
 abbrev pub Half : ℕ → Option (List ℕ) → Type 0

@@ -1,5 +1,3 @@
-pub mod WordLaws
-pub mod RowLaws
 pub mod BuildingLaws
 pub mod ExplainingLaws
 pub mod HexCount

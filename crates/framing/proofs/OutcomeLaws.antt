@@ -8,17 +8,17 @@ use native.Mathlib.Omega.{arith}
 use borrow.Author.Tests.{lt-ltb, le-ltb}
 use lib.ListN.{length, drop, getD, replicate}
 use Rattle.text.specs.Hex.{hexPairs}
-use Rattle.framing.specs.Chars.{chars}
-use Rattle.framing.specs.Words.{wordAt, wordEnd}
-use Rattle.framing.specs.Table.{fieldsFrom, fieldsIn, fieldsOf, hasData}
-use Rattle.framing.specs.Rows.{readFields, dataAt}
+use Rattle.frame_fields.specs.Chars.{chars}
+use Rattle.frame_fields.specs.Words.{wordAt, wordEnd}
+use Rattle.frame_fields.specs.Table.{fieldsFrom, fieldsIn, fieldsOf, hasData}
+use Rattle.frame_fields.specs.Rows.{readFields, dataAt}
 use Rattle.framing.specs.Said.{wants}
-use Rattle.framing.specs.Called.{called}
+use Rattle.frame_fields.specs.Called.{called}
 use Rattle.framing.specs.Outcome.{Outcome, build, explain, complain, atEnd, byData, withData, wantsField, byRow, byKind, byBytes, byBody, byWord, outcomeOf}
-use Rattle.framing.specs.declared.table.Kind.{Kind}
-use Rattle.framing.specs.declared.table.Form.{Form}
-use Rattle.framing.specs.declared.rows.Row.{Row}
-use Rattle.framing.specs.declared.called.Called.{Called}
+use Rattle.frame_fields.specs.declared.table.Kind.{Kind}
+use Rattle.frame_fields.specs.declared.table.Form.{Form}
+use Rattle.frame_fields.specs.declared.rows.Row.{Row}
+use Rattle.frame_fields.specs.declared.called.Called.{Called}
 
 -- ---- the end
 module _ (s : List ℕ) (at : ℕ) (k : Kind) (vs : List ℕ) where
@@ -47,10 +47,10 @@ from-wants names digits i (suc n) (suc k) h =
     let e : i + suc n ≡ i + 1 + n = omega arith in
     rw e (from-wants names digits (i + 1) n k (omega arith))
 
-module _ (s : List ℕ) (at : ℕ) (k : Kind) (form : Form) (row : Row) (e : fieldsIn form ≡ fieldsOf k) (r : row ≡ readFields (fieldsIn form) s at 0 (replicate 8 0)) where
+module _ (s : List ℕ) (at : ℕ) (k : Kind) (form : Form) (row : Row) (e : fieldsIn form ≡ fieldsOf k) (r : row ≡ readFields (fieldsOf k) s at 0 (replicate 8 0)) where
   by-row : byKind s at k ≡ byRow s k row
   unfolding byKind
-  by-row = rw (r, e)
+  by-row = rw r
 
   count-is : length (fieldsOf k) ≡ form .count
   count-is = ap length (sym e) ∙ from-length (form .names) (form .digits) 0 (form .count)

@@ -1,10 +1,3 @@
-pub mod Chars
-pub mod Words
-pub mod Table
-pub mod Texts
-pub mod Rows
-pub mod Called
-pub mod Numbers
 pub mod Said
 pub mod Outcome
 pub mod Answers

@@ -3,9 +3,9 @@ use mathlib.Core.List.{List, [], _∷_}
 use Prim.Native.Nat.{ℕ}
 use Rattle.frames.specs.declared.reading.Reading.{Reading}
 use Rattle.frames.specs.declared.reading.Reading.the-variants.{Taken, Length, Stuffing, Size, Fcs, Reserved, Kind, Form, Check}
-use Rattle.framing.specs.Chars.{chars}
-use Rattle.framing.specs.Texts.{noText, put, puts, countText}
-use Rattle.framing.specs.declared.texts.Text.{Text}
+use Rattle.frame_fields.specs.Chars.{chars}
+use Rattle.frame_fields.specs.Texts.{noText, put, puts, countText}
+use Rattle.frame_fields.specs.declared.texts.Text.{Text}
 
 -- the line's number and the first thing that is wrong
 abbrev pub badStart : List ℕ → Text

@@ -8,16 +8,16 @@ ghost use Rattle.framing.specs.Outcome.{atEnd, withData, byKind, byBody}
 ghost use Rattle.framing.specs.Answers.{answerOf, overText};
 ghost use Rattle.framing.specs.Answers.{said as Answers·said};
 use crate::building;
-use crate::called;
-use crate::called::Called;
 use crate::explaining;
-use crate::rows;
 use crate::said::bad;
 use crate::said::wants_digits;
-use crate::table;
-use crate::table::Kind;
-use crate::texts::Text;
-use crate::words;
+use frame_fields::called;
+use frame_fields::called::Called;
+use frame_fields::rows;
+use frame_fields::table;
+use frame_fields::table::Kind;
+use frame_fields::texts::Text;
+use frame_fields::words;
 use text::hex;
 use text::hex::Hex;
 
@@ -56,7 +56,7 @@ fn by_kind(number: &[u8], line: &[u8], at: usize, kind: Kind) -> Text
 {
     let form = table::form_of(kind);
     let count = form.count;
-    let row = rows::read_fields(line, at, form);
+    let row = rows::read_fields(line, at, kind);
     let n = row.count;
     let to = row.at;
     let v = row.values;

@@ -3,11 +3,11 @@ ghost use mathlib.Core.Path.{_≡_};
 ghost use mathlib.Core.List.{[], _∷_};
 ghost use Prim.Native.Nat.{_*_, _<_};
 ghost use lib.ListN.{getD};
-ghost use Rattle.framing.specs.Words.{wordAt};
+ghost use Rattle.frame_fields.specs.Words.{wordAt};
 ghost use Rattle.framing.specs.Said.{badStart, badText, wants, refusedText};
-use crate::table::Form;
-use crate::texts;
-use crate::texts::Text;
+use frame_fields::table::Form;
+use frame_fields::texts;
+use frame_fields::texts::Text;
 use frames::reading::Reading;
 
 // The line's number, before the first thing that is wrong.

@@ -3,8 +3,8 @@ use mathlib.Core.Path.{_≡_, refl, sym, ap, _∙_}
 use native.Mathlib.Omega.{arith}
 use lib.ListN.{length}
 use lib.Seq.{length-take-le}
-use Rattle.framing.specs.Called.{called}
-use Rattle.framing.proofs.WordLaws.{word-first, word-within}
+use Rattle.frame_fields.specs.Called.{called}
+use Rattle.frame_fields.proofs.WordLaws.{word-first, word-within}
 use Rattle.framing.proofs.OutcomeLaws.{line-over, line-by}
 use borrow.Author.Needs.{needs}
 use Rattle.framing.proofs.answering.answer.Statement.{statement}

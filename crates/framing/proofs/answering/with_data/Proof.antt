@@ -5,7 +5,7 @@ use native.Mathlib.Omega.{arith}
 use lib.ListN.{length, take}
 use lib.Seq.{length-take-le}
 use Rattle.text.proofs.HexLaws.{read-within}
-use Rattle.framing.specs.Rows.{dataAt}
+use Rattle.frame_fields.specs.Rows.{dataAt}
 use Rattle.framing.proofs.HexCount.{bytes-are, not-hex, room-never, data-half, data-inside}
 use Rattle.framing.proofs.OutcomeLaws.{with-data}
 use Prim.Native.Nat.{_≤_}

@@ -4,7 +4,7 @@ use mathlib.Core.Path.{_≡_, refl, sym, _∙_}
 use Prim.Native.Nat.{_-_}
 use native.Mathlib.Nat.{sub-zero}
 use lib.ListN.{length}
-use Rattle.framing.specs.Table.{fieldsFrom, fieldsIn}
+use Rattle.frame_fields.specs.Table.{fieldsFrom, fieldsIn}
 use Rattle.framing.specs.Answers.{putFields}
 use Rattle.framing.proofs.ExplainingLaws.{put-turn, put-end}
 use Rattle.framing.proofs.explaining.add_fields.Statement.{statement}
