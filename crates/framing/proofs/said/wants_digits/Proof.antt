@@ -1,5 +1,3 @@
-use lib.ListN.{length}
-use native.Mathlib.Omega.{arith}
 use mathlib.Core.Path.{_≡_, refl}
 use borrow.Author.Needs.{needs}
 use Rattle.framing.proofs.said.wants_digits.Statement.{statement}
@@ -15,7 +13,7 @@ mul-add-word : tie.Need-mul-add-word
 mul-add-word c = search needs
 
 add-word-requires : tie.Need-add-word-requires
-add-word-requires c κs = let n : length (c .before .before .before .before .before .args .form .names) ≡ 64 = search needs in omega (arith, c .before .before .before .before .before .pre)
+add-word-requires c κs = search needs
 
 slice-aggregate-add : tie.Need-slice-aggregate-add
 slice-aggregate-add c = search needs
