@@ -3,3 +3,4 @@ pub mod ExplainingLaws
 pub mod HexCount
 pub mod OutcomeLaws
 pub mod GrammarLaws
+pub mod BuiltText
