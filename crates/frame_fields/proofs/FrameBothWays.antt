@@ -1,5 +1,5 @@
 -- A frame's numbers, put into a frame of its kind again, give that frame. Assumes nothing.
-use mathlib.Core.Path.{_≡_, refl}
+use mathlib.Core.Path.{_≡_}
 use Prim.Native.Nat.{ℕ}
 use native.Mathlib.Nat.{mod-eq-of-lt}
 use Rattle.frames.specs.Kinds.{dataLen}

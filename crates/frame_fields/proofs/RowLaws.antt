@@ -1,9 +1,9 @@
 -- Laws of the fields of a line: the ways of a word, and a turn of the loop over fields. Assumes nothing.
-use mathlib.Core.Path.{_≡_, refl, sym, ap, _∙_}
+use mathlib.Core.Path.{_≡_, refl, ap, _∙_}
 use mathlib.Core.Bool.{Bool, true, false}
 use mathlib.Core.List.{List, [], _∷_, _++_}
 use mathlib.Core.Option.{Option, none, some}
-use Prim.Native.Nat.{ℕ, zero, suc, _+_, _-_, _*_, _≤_, _<_}
+use Prim.Native.Nat.{ℕ, suc, _+_, _-_, _*_, _≤_, _<_}
 use native.Mathlib.Omega.{arith}
 use borrow.Author.Tests.{lt-ltb, le-ltb, ltb-false, eq-eqb, ne-eqb}
 use lib.Dec.{eqb, ltb}
@@ -14,15 +14,12 @@ use Rattle.base.proofs.Choosing.{absurdly}
 use Rattle.base.proofs.Numbers.{number-before}
 use Rattle.fields.specs.Fields.{width8}
 use Rattle.text.specs.Hex.{hexPairs, hexOf, hexLeft}
-use Rattle.text.specs.declared.hex.Hex.{Hex}
 use Rattle.text.specs.declared.hex.Hex.the-variants.{Bytes, NotHex, NoRoom}
 use Rattle.frame_fields.specs.Chars.{chars}
 use Rattle.frame_fields.specs.Words.{wordAt, wordEnd, starts}
-use Rattle.frame_fields.specs.Table.{Field, fieldsFrom}
-use Rattle.frame_fields.specs.Rows.{valueIn, numberIn, fieldValue, fieldAt, byValue, readFields, dataWord, dataAt}
-use Rattle.frame_fields.specs.declared.rows.Value.{Value}
+use Rattle.frame_fields.specs.Table.{fieldsFrom}
+use Rattle.frame_fields.specs.Rows.{valueIn, numberIn, fieldValue, fieldAt, readFields, dataWord, dataAt}
 use Rattle.frame_fields.specs.declared.rows.Value.the-variants.{Number, Wrong}
-use Rattle.frame_fields.specs.declared.rows.Row.{Row}
 use Rattle.frame_fields.proofs.WordLaws.{word-part}
 
 -- ---- the number of n bytes

@@ -1,7 +1,7 @@
 -- A text in quotes as the list of its characters' numbers. Assumes nothing.
 use mathlib.Core.List.{List, [] as nil, _∷_ as cons}
 use Prim.Native.Nat.{ℕ}
-use Prim.Native.Char.{Char, code}
+use Prim.Native.Char.{code}
 use Prim.Native.String.{String, [], _∷_}
 
 abbrev pub chars : String → List ℕ

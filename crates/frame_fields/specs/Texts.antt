@@ -1,5 +1,5 @@
 -- A text put together piece by piece: each is added whole, or not at all where it does not fit. Assumes nothing.
-use mathlib.Core.List.{List, [], _∷_, _++_}
+use mathlib.Core.List.{List, [], _∷_}
 use Prim.Native.Nat.{ℕ, _+_, _/_, _%_}
 use lib.Dec.{ltb}
 use lib.ListN.{length, replicate, take}

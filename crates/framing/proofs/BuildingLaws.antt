@@ -1,23 +1,21 @@
 -- Laws of a frame that is built: the line that was written, and the body in it. Assumes nothing.
-use mathlib.Core.Path.{_≡_, refl, sym, ap, _∙_}
-use mathlib.Core.List.{List, [], _∷_, _++_}
+use mathlib.Core.Path.{_≡_, ap, _∙_}
+use mathlib.Core.List.{List, _++_}
 use Prim.Native.Nat.{ℕ, _+_, _-_, _≤_}
 use native.Mathlib.Omega.{arith}
 use lib.ListN.{length, take, drop, length-append, length-drop}
 use lib.Seq.{take-append-le, drop-append-le}
 use Rattle.text.specs.Putting.{hexText}
 use Rattle.wire.specs.Body.{fcsOf}
-use Rattle.wire.specs.Laying.{bodyOf, lineOf, leftBy}
+use Rattle.wire.specs.Laying.{bodyOf, leftBy}
 use Rattle.wire.specs.declared.laying.Laid.{Laid}
-use Rattle.wire.specs.declared.laying.Laid.the-variants.{Sent, Reserved, Form, Room}
+use Rattle.wire.specs.declared.laying.Laid.the-variants.{Sent}
 use Rattle.wire.proofs.LayingLaws.{line-least, body-between}
 use Rattle.frames.specs.Kinds.{appOf}
 use Rattle.frames.specs.Writing.{frameLine, writtenOf}
 use Rattle.frames.specs.declared.kinds.Frame.{Frame}
-use Rattle.frames.specs.declared.reading.Reading.the-variants as reading
 use Rattle.frames.proofs.Sending.{sent-says}
 use Rattle.frame_fields.specs.Texts.{noText, put}
-use Rattle.framing.specs.Said.{refusedText}
 use Rattle.framing.specs.Answers.{byLaid, frameBuilt}
 use Rattle.frame_fields.specs.declared.texts.Text.{Text}
 

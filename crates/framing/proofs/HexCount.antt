@@ -5,7 +5,7 @@ use mathlib.Core.List.{List, [], _∷_, _++_}
 use mathlib.Core.Option.{Option, none, some}
 use Prim.Native.Nat.{ℕ, suc, _+_, _*_, _≤_, _<_}
 use native.Mathlib.Omega.{arith}
-use borrow.Author.Tests.{ltb-true, ltb-false}
+use borrow.Author.Tests.{ltb-true}
 use lib.Dec.{ltb}
 use lib.ListN.{length, take, drop, length-drop}
 use lib.Seq.{take-at}
@@ -14,10 +14,9 @@ use Rattle.base.proofs.Choosing.{absurdly, by-test}
 use Rattle.text.specs.Hex.{pairOf, paired, hexPairs, hexOf, hexLeft}
 use Rattle.text.specs.declared.hex.Pair.{Pair}
 use Rattle.text.specs.declared.hex.Pair.the-variants.{Byte, Other}
-use Rattle.text.specs.declared.hex.Hex.{Hex}
 use Rattle.text.specs.declared.hex.Hex.the-variants.{Bytes, NotHex, NoRoom}
 use Rattle.frame_fields.specs.Chars.{chars}
-use Rattle.frame_fields.specs.Words.{wordIn, wordAt, starts}
+use Rattle.frame_fields.specs.Words.{wordAt, starts}
 use Rattle.frame_fields.specs.Rows.{dataWord, dataAt}
 use Rattle.frame_fields.proofs.WordLaws.{word-shorter}
 

@@ -2,7 +2,7 @@
 use mathlib.Core.Path.{_≡_, refl, sym, ap, _∙_}
 use mathlib.Core.Bool.{true, false}
 use mathlib.Core.List.{List, [], _∷_}
-use mathlib.Core.Option.{Option, none, some}
+use mathlib.Core.Option.{Option}
 use Prim.Native.Nat.{ℕ, zero, suc, _+_, _*_, _≤_, _<_}
 use native.Mathlib.Omega.{arith}
 use borrow.Author.Tests.{lt-ltb, le-ltb}
@@ -14,7 +14,7 @@ use Rattle.frame_fields.specs.Table.{fieldsFrom, fieldsIn, fieldsOf, hasData}
 use Rattle.frame_fields.specs.Rows.{readFields, dataAt}
 use Rattle.framing.specs.Said.{wants}
 use Rattle.frame_fields.specs.Called.{called}
-use Rattle.framing.specs.Outcome.{Outcome, build, explain, complain, atEnd, byData, withData, wantsField, byRow, byKind, byBytes, byBody, byWord, outcomeOf}
+use Rattle.framing.specs.Outcome.{build, complain, atEnd, byData, withData, wantsField, byRow, byKind, byBytes, byBody, byWord, outcomeOf}
 use Rattle.frame_fields.specs.declared.table.Kind.{Kind}
 use Rattle.frame_fields.specs.declared.table.Form.{Form}
 use Rattle.frame_fields.specs.declared.rows.Row.{Row}

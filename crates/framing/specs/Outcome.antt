@@ -1,5 +1,4 @@
 -- What a line says: a frame to build, a body to explain, or the first thing that is wrong. Assumes nothing.
-use mathlib.Core.Bool.{Bool}
 use mathlib.Core.List.{List, [], _∷_}
 use mathlib.Core.Option.{Option, none, some}
 use Prim.Native.Nat.{ℕ, zero, suc, _+_}

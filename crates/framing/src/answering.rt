@@ -1,9 +1,7 @@
 // The answer to a line: a frame built, a body explained, or the first thing that is wrong.
 ghost use mathlib.Core.Path.{_≡_};
-ghost use mathlib.Core.List.{[], _∷_};
 ghost use Prim.Native.Nat.{_≤_};
 ghost use lib.ListN.{length};
-ghost use Rattle.framing.specs.Said.{badText};
 ghost use Rattle.framing.specs.Outcome.{atEnd, withData, byKind, byBody};
 ghost use Rattle.framing.specs.Answers.{answerOf, overText};
 ghost use Rattle.framing.specs.Answers.{said as Answers·said};

@@ -11,7 +11,7 @@ ghost use Rattle.frames.specs.Kinds.{isSafe, dataLen};
 ghost use Rattle.frame_fields.specs.Words.{wordAt};
 ghost use Rattle.frame_fields.specs.Table.{fieldsIn};
 ghost use Rattle.frame_fields.specs.Texts.{put};
-ghost use Rattle.framing.specs.Answers.{putField, putFields, dataOf, frameText, explainedText, byReading};
+ghost use Rattle.framing.specs.Answers.{putField, putFields, dataOf, frameText, explainedText};
 use crate::said;
 use frame_fields::numbers;
 use frame_fields::table;

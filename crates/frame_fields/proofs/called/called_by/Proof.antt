@@ -1,5 +1,5 @@
 -- `called::called_by` meets its contract: past each test the words behind it decide. Assumes nothing.
-use mathlib.Core.Path.{_≡_, refl, sym, _∙_}
+use mathlib.Core.Path.{_≡_, sym, _∙_}
 use lib.ListN.{drop}
 use Rattle.base.proofs.Choosing.{choose-true, choose-false}
 use Rattle.frame_fields.specs.Called.{called, firstOf, firstWords}

@@ -1,5 +1,5 @@
 -- `numbers::address_of` meets its contract. Assumes nothing.
-use mathlib.Core.Path.{_≡_, refl, sym, _∙_}
+use mathlib.Core.Path.{sym, _∙_}
 use Rattle.base.proofs.Choosing.{choose-true, choose-false}
 use borrow.Author.Needs.{needs}
 use Rattle.frame_fields.proofs.numbers.address_of.Statement.{statement}

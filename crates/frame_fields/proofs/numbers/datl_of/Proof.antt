@@ -1,5 +1,4 @@
 -- `numbers::datl_of` meets its contract. Assumes nothing.
-use mathlib.Core.Path.{_≡_, refl}
 use borrow.Author.Tests.{lt-ltb, le-ltb}
 use borrow.Author.Needs.{needs}
 use Rattle.frame_fields.proofs.numbers.datl_of.Statement.{statement}

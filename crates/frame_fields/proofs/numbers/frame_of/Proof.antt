@@ -1,5 +1,4 @@
 -- `numbers::frame_of` meets its contract: each field is the low bits of its number. Assumes nothing.
-use mathlib.Core.Path.{_≡_, refl}
 use borrow.Author.Needs.{needs}
 use Rattle.frame_fields.proofs.numbers.frame_of.Statement.{statement}
 use Rattle.frame_fields.proofs.numbers.frame_of.Tie as tie

@@ -1,5 +1,4 @@
 -- `numbers::numbers_of` meets its contract, kind by kind. Assumes nothing.
-use mathlib.Core.Path.{_≡_, refl}
 use borrow.Author.Needs.{needs}
 use Rattle.frame_fields.proofs.numbers.numbers_of.Statement.{statement}
 use Rattle.frame_fields.proofs.numbers.numbers_of.Tie as tie

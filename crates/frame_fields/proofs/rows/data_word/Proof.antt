@@ -1,5 +1,5 @@
 -- `rows::data_word` meets its contract. Assumes nothing.
-use mathlib.Core.Path.{_≡_, refl, sym, _∙_}
+use mathlib.Core.Path.{refl, sym, _∙_}
 use borrow.Author.Tests.{not-true, not-false}
 use Rattle.frame_fields.proofs.RowLaws.{data-other, data-named}
 use borrow.Author.Needs.{needs}

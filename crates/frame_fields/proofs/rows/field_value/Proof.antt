@@ -1,5 +1,5 @@
 -- `rows::field_value` meets its contract. Assumes nothing.
-use mathlib.Core.Path.{_≡_, sym, _∙_}
+use mathlib.Core.Path.{sym, _∙_}
 use borrow.Author.Tests.{not-true, not-false}
 use Rattle.frame_fields.proofs.RowLaws.{field-other, field-named}
 use borrow.Author.Needs.{needs}

@@ -1,5 +1,4 @@
 -- `rows::read_fields` meets its contract. Assumes nothing.
-use mathlib.Core.Path.{_≡_, refl}
 use borrow.Author.Needs.{needs}
 use Rattle.frame_fields.proofs.rows.read_fields.Statement.{statement}
 use Rattle.frame_fields.proofs.rows.read_fields.Tie as tie

@@ -1,6 +1,6 @@
 use lib.ListN.{drop}
 use Rattle.text.specs.Hex.{hexPairs}
-use mathlib.Core.Path.{_≡_, refl, sym, _∙_}
+use mathlib.Core.Path.{refl, sym, _∙_}
 use Rattle.text.proofs.HexLaws.{read-within}
 use Rattle.frame_fields.proofs.RowLaws.{value-not, value-room, value-bytes}
 use borrow.Author.Needs.{needs}

@@ -1,5 +1,4 @@
 -- `texts::add_count` meets its contract. Assumes nothing.
-use mathlib.Core.Path.{_≡_, refl}
 use borrow.Author.Tests.{lt-ltb, le-ltb}
 use Rattle.frame_fields.specs.Texts.{countText}
 use borrow.Author.Needs.{needs}

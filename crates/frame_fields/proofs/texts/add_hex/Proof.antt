@@ -1,5 +1,4 @@
 -- `texts::add_hex` meets its contract. Assumes nothing.
-use mathlib.Core.Path.{_≡_, refl}
 use Rattle.frame_fields.specs.Texts.{put}
 use borrow.Author.Needs.{needs}
 use Rattle.frame_fields.proofs.texts.add_hex.Statement.{statement}

@@ -1,5 +1,4 @@
 -- `texts::add_word` meets its contract; past the end there is no word. Assumes nothing.
-use mathlib.Core.Path.{_≡_, refl}
 use native.Mathlib.Omega.{arith}
 use Rattle.frame_fields.proofs.WordLaws.{word-none, word-within, word-part}
 use borrow.Author.Needs.{needs}

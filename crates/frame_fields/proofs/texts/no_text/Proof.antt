@@ -1,5 +1,5 @@
 -- `texts::no_text` meets its contract. Assumes nothing.
-use mathlib.Core.Path.{_≡_, refl}
+use mathlib.Core.Path.{refl}
 use Rattle.frame_fields.specs.Texts.{noText}
 use Rattle.frame_fields.proofs.texts.no_text.Statement.{statement}
 use Rattle.frame_fields.proofs.texts.no_text.Tie as tie

@@ -1,6 +1,4 @@
 -- `words::is_word` meets its contract. Assumes nothing.
-use mathlib.Core.Path.{_≡_, ap}
-use mathlib.Core.Bool.{Bool, _&&_}
 use Rattle.frame_fields.specs.Words.{same}
 use borrow.Author.Needs.{needs}
 use Rattle.frame_fields.proofs.words.is_word.Statement.{statement}

@@ -1,7 +1,6 @@
 -- `answering::answer` meets its contract, by the line's first word. Assumes nothing.
-use mathlib.Core.Path.{_≡_, refl, sym, ap, _∙_}
+use mathlib.Core.Path.{sym, ap, _∙_}
 use native.Mathlib.Omega.{arith}
-use lib.ListN.{length}
 use lib.Seq.{length-take-le}
 use Rattle.frame_fields.specs.Called.{called}
 use Rattle.frame_fields.proofs.WordLaws.{word-first, word-within}

@@ -1,5 +1,4 @@
 -- `answering::at_end` meets its contract. Assumes nothing.
-use mathlib.Core.Path.{_≡_, refl}
 use Rattle.framing.proofs.OutcomeLaws.{end-more, end-here}
 use borrow.Author.Needs.{needs}
 use Rattle.framing.proofs.answering.at_end.Statement.{statement}

@@ -1,9 +1,8 @@
 -- `answering::by_body` meets its contract, by what the reading of hex digits gave. Assumes nothing.
 use mathlib.Core.Path.{_≡_, refl, sym, _∙_}
-use mathlib.Core.Option.{some}
 use Prim.Native.Nat.{_+_, _≤_}
 use native.Mathlib.Omega.{arith}
-use lib.ListN.{length, take, drop}
+use lib.ListN.{length, drop}
 use lib.Seq.{length-take-le}
 use Rattle.text.specs.Hex.{hexPairs}
 use Rattle.text.proofs.HexLaws.{read-within}

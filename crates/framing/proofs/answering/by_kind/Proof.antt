@@ -1,5 +1,5 @@
 -- `answering::by_kind` meets its contract. Assumes nothing.
-use mathlib.Core.Path.{_≡_, refl, sym, _∙_}
+use mathlib.Core.Path.{sym, _∙_}
 use Rattle.framing.proofs.OutcomeLaws.{kind-wants, kind-data, kind-plain}
 use borrow.Author.Needs.{needs}
 use Rattle.framing.proofs.answering.by_kind.Statement.{statement}

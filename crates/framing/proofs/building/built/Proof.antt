@@ -1,5 +1,4 @@
 -- `building::built` meets its contract. Assumes nothing.
-use mathlib.Core.Path.{_≡_, refl}
 use Rattle.framing.specs.Answers.{builtText}
 use borrow.Author.Needs.{needs}
 use Rattle.framing.proofs.building.built.Statement.{statement}

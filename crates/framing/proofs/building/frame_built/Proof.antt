@@ -1,5 +1,5 @@
 -- `building::frame_built` meets its contract, answer by answer. Assumes nothing.
-use mathlib.Core.Path.{_≡_, refl, sym, _∙_}
+use mathlib.Core.Path.{sym, _∙_}
 use Rattle.framing.proofs.BuildingLaws.{sent-within, built-sent, built-by}
 use borrow.Author.Needs.{needs}
 use Rattle.framing.proofs.building.frame_built.Statement.{statement}

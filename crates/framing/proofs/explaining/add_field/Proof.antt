@@ -1,5 +1,4 @@
 -- `explaining::add_field` meets its contract, piece by piece. Assumes nothing.
-use mathlib.Core.Path.{_≡_, refl}
 use Rattle.framing.specs.Answers.{putField}
 use borrow.Author.Needs.{needs}
 use Rattle.framing.proofs.explaining.add_field.Statement.{statement}

@@ -1,5 +1,4 @@
 -- `explaining::data_count` meets its contract, kind by kind. Assumes nothing.
-use mathlib.Core.Path.{_≡_, refl}
 use borrow.Author.Needs.{needs}
 use Rattle.framing.proofs.explaining.data_count.Statement.{statement}
 use Rattle.framing.proofs.explaining.data_count.Tie as tie

@@ -1,5 +1,5 @@
 -- `explaining::explained` meets its contract, answer by answer of the reader. Assumes nothing.
-use mathlib.Core.Path.{_≡_, refl}
+use mathlib.Core.Path.{_≡_}
 use native.Mathlib.Omega.{arith}
 use lib.ListN.{length}
 use Rattle.framing.proofs.ExplainingLaws.{explained-by}

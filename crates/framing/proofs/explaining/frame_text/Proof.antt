@@ -1,5 +1,5 @@
 -- `explaining::frame_text` meets its contract: what each piece adds, and the form of the kind. Assumes nothing.
-use mathlib.Core.Path.{_≡_, refl, sym, _∙_}
+use mathlib.Core.Path.{sym, _∙_}
 use Rattle.framing.proofs.ExplainingLaws.{frame-data, frame-plain}
 use borrow.Author.Needs.{needs}
 use Rattle.framing.proofs.explaining.frame_text.Statement.{statement}

@@ -1,5 +1,4 @@
 -- `grammar::add_form_field` meets its contract, piece by piece. Assumes nothing.
-use mathlib.Core.Path.{_≡_, refl}
 use Rattle.framing.specs.Answers.{formField}
 use borrow.Author.Needs.{needs}
 use Rattle.framing.proofs.grammar.add_form_field.Statement.{statement}

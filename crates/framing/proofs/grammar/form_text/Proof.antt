@@ -1,5 +1,5 @@
 -- `grammar::form_text` meets its contract: what each piece adds, and the form of the kind. Assumes nothing.
-use mathlib.Core.Path.{_≡_, refl, sym, _∙_}
+use mathlib.Core.Path.{sym, _∙_}
 use Rattle.framing.proofs.GrammarLaws.{form-data, form-plain}
 use borrow.Author.Needs.{needs}
 use Rattle.framing.proofs.grammar.form_text.Statement.{statement}

@@ -1,5 +1,4 @@
 -- `said::bad` meets its contract. Assumes nothing.
-use mathlib.Core.Path.{_≡_, refl}
 use borrow.Author.Needs.{needs}
 use Rattle.framing.proofs.said.bad.Statement.{statement}
 use Rattle.framing.proofs.said.bad.Tie as tie

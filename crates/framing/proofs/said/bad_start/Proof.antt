@@ -1,5 +1,4 @@
 -- `said::bad_start` meets its contract. Assumes nothing.
-use mathlib.Core.Path.{_≡_, refl}
 use borrow.Author.Needs.{needs}
 use Rattle.framing.proofs.said.bad_start.Statement.{statement}
 use Rattle.framing.proofs.said.bad_start.Tie as tie

@@ -1,5 +1,4 @@
 -- `said::refused` meets its contract, refusal by refusal. Assumes nothing.
-use mathlib.Core.Path.{_≡_, refl}
 use borrow.Author.Needs.{needs}
 use Rattle.framing.proofs.said.refused.Statement.{statement}
 use Rattle.framing.proofs.said.refused.Tie as tie

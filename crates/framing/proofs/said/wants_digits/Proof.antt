@@ -1,4 +1,3 @@
-use mathlib.Core.Path.{_≡_, refl}
 use borrow.Author.Needs.{needs}
 use Rattle.framing.proofs.said.wants_digits.Statement.{statement}
 use Rattle.framing.proofs.said.wants_digits.Tie as tie
