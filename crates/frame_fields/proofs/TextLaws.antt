@@ -7,15 +7,15 @@ use borrow.Author.Tests.{le-leb}
 use lib.ListN.{length, take, drop, replicate, length-append, length-replicate}
 use lib.Seq.{sets, take-at, length-sets}
 use Rattle.base.proofs.Sets.{sets-append, sets-front}
-use Rattle.text.specs.Putting.{putAt, placeAfter}
+use Rattle.text.proofs.PuttingLaws.{put-fits}
 use Rattle.frame_fields.specs.Texts.{noText, put, puts, textIn}
 use Rattle.frame_fields.specs.declared.texts.Text.{Text}
 
 -- a piece that fits
 put-is : (t : Text) (s : List ℕ) → t .len + length s ≤ length (t .bytes)
     → put t s ≡ record { bytes = sets (t .bytes) (t .len) s; len = t .len + length s }
-unfolding put putAt placeAfter
-put-is t s h = rw (le-leb _ _ h)
+unfolding put
+put-is t s h = let p = put-fits (t .bytes) (t .len) s _ _ (le-leb _ _ h) refl refl in rw (← p .0, ← p .1)
 
 -- two pieces that fit are one
 pub put-put : (t : Text) (s u : List ℕ) → t .len + length s + length u ≤ length (t .bytes) → put (put t s) u ≡ put t (s ++ u)
