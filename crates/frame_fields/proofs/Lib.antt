@@ -1,0 +1,4 @@
+pub mod WordLaws
+pub mod RowLaws
+pub mod FrameBothWays
+pub mod TextLaws

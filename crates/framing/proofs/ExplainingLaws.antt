@@ -1,0 +1,55 @@
+-- Laws of a frame that is explained: a turn of the loop over fields, with data and without. Assumes nothing.
+use mathlib.Core.Path.{_≡_, ap, _∙_}
+use mathlib.Core.Bool.{true, false}
+use mathlib.Core.List.{List, [], _∷_}
+use Prim.Native.Nat.{ℕ, _+_, _-_, _*_, _≤_, _<_}
+use native.Mathlib.Omega.{arith}
+use lib.ListN.{length, take, drop, getD}
+use lib.Seq.{sets, take-at}
+use Rattle.base.specs.Bytes.{bytesOf}
+use Rattle.base.proofs.Numbers.{length-bytesOf}
+use Rattle.base.proofs.Sets.{sets-front}
+use Rattle.text.specs.Putting.{hexText}
+use Rattle.frames.specs.declared.kinds.Frame.{Frame}
+use Rattle.frames.specs.Reading.{readFrame}
+use Rattle.frames.specs.declared.reading.Received.{Received}
+use Rattle.frame_fields.specs.Chars.{chars}
+use Rattle.frame_fields.specs.Words.{wordAt}
+use Rattle.frame_fields.specs.Table.{fieldsFrom, fieldsOf, hasData, kindWord}
+use Rattle.frame_fields.specs.Texts.{noText, put, puts}
+use Rattle.frame_fields.specs.Numbers.{kindOf, numbersOf}
+use Rattle.framing.specs.Answers.{putField, putFields, dataOf, frameText, byReading, explainedText}
+use Rattle.frame_fields.specs.declared.texts.Text.{Text}
+use Rattle.frame_fields.proofs.RowLaws.{fields-turn, fields-end}
+
+-- the w bytes of a number, stored at the start
+pub stored-bytes : (buf : List ℕ) (w n : ℕ) → w ≤ length buf → take w (sets buf 0 (bytesOf w n)) ≡ bytesOf w n
+stored-bytes buf w n h =
+    let l : length (bytesOf w n) ≡ w = length-bytesOf w n in
+    ap (take w) (sets-front buf (bytesOf w n) (omega arith)) ∙ take-at (bytesOf w n) (drop (length (bytesOf w n)) buf) w l
+
+module _ (names digits : List ℕ) (i n : ℕ) (vs : List ℕ) (t : Text) where
+  pub put-turn : i < n → putFields (fieldsFrom names digits i (n - i)) vs i t
+      ≡ putFields (fieldsFrom names digits (i + 1) (n - (i + 1))) vs (i + 1) (putField t (wordAt names (i * 8), getD digits i 0) (getD vs i 0))
+  unfolding putFields
+  put-turn h = rw (fields-turn names digits i n h)
+
+  pub put-end : n ≤ i → putFields (fieldsFrom names digits i (n - i)) vs i t ≡ t
+  unfolding putFields
+  put-end h = rw (fields-end names digits i n h)
+
+module _ (a : ℕ) (f : Frame) (bytes : List ℕ) where
+  abbrev pub withoutData : Text
+  withoutData = putFields (fieldsOf (kindOf f)) (numbersOf a f) 0 (put noText (kindWord (kindOf f)))
+
+  pub frame-data : hasData (kindOf f) ≡ true → puts withoutData (chars " data=" ∷ hexText (dataOf f bytes) ∷ []) ≡ frameText a f bytes
+  unfolding frameText
+  frame-data e = rw e
+
+  pub frame-plain : hasData (kindOf f) ≡ false → withoutData ≡ frameText a f bytes
+  unfolding frameText
+  frame-plain e = rw e
+
+pub explained-by : (body : List ℕ) (r : Received) (t : Text) → r ≡ readFrame body → t ≡ byReading (r .reading) (r .bytes) → t ≡ explainedText body
+unfolding explainedText
+explained-by body r t e p = rw (← e) p

@@ -1,0 +1,81 @@
+-- `answering::answer` meets its contract, by the line's first word. Assumes nothing.
+use mathlib.Core.Path.{sym, ap, _∙_}
+use native.Mathlib.Omega.{arith}
+use lib.Seq.{length-take-le}
+use Rattle.frame_fields.specs.Called.{called}
+use Rattle.frame_fields.proofs.WordLaws.{word-first, word-within}
+use Rattle.framing.proofs.OutcomeLaws.{line-over, line-by}
+use borrow.Author.Needs.{needs}
+use Rattle.framing.proofs.answering.answer.Statement.{statement}
+use Rattle.framing.proofs.answering.answer.Tie as tie
+
+over-requires : tie.Need-over-requires
+over-requires c κs = search needs
+
+returns : tie.Need-returns
+returns c = rw (line-over _ (c .before .if1 .taken)) (c .over .ensures)
+
+word-end-requires : tie.Need-word-end-requires
+word-end-requires c κs = search needs
+
+slice-aggregate-called-by : tie.Need-slice-aggregate-called-by
+slice-aggregate-called-by c = let a = c .before .before .before .before .before .args in sym (length-take-le _ (a .line .now) (omega (arith, c .before .word-end .ensures, word-within (a .line .now) 0 (search needs))))
+
+called-by-requires : tie.Need-called-by-requires
+called-by-requires c κs = search needs
+
+enum-known-kind : tie.Need-enum-known-kind
+enum-known-kind c = search needs
+
+by-kind-requires : tie.Need-by-kind-requires
+by-kind-requires c κs = search needs
+
+enum-told : tie.Need-enum-told
+enum-told c = search needs
+
+by-body-requires : tie.Need-by-body-requires
+by-body-requires c κs = search needs
+
+enum-told-2 : tie.Need-enum-told-2
+enum-told-2 c = search needs
+
+slice-aggregate-bad : tie.Need-slice-aggregate-bad
+slice-aggregate-bad c = search needs
+
+bad-requires : tie.Need-bad-requires
+bad-requires c κs = search needs
+
+returns-2 : tie.Need-returns-2
+returns-2 c =
+    let a = c .before .before .before .before .before .before .before .before .before .before .args in
+    rw (line-by (a .line .now) (c .before .before .before .before .before .before .before .if1 .left) _ (ap called (sym (word-first (a .line .now) _ (c .before .before .before .before .before .before .word-end .ensures))) ∙ sym (c .before .before .before .before .called-by .ensures) ∙ c .before .before .kind .given .1), ← c .before .before .before .before .before .before .word-end .ensures) (c .by-kind .ensures)
+
+returns-3 : tie.Need-returns-3
+returns-3 c =
+    let a = c .before .before .before .before .before .before .before .before .before .args in
+    rw (line-by (a .line .now) (c .before .before .before .before .before .before .if1 .left) _ (ap called (sym (word-first (a .line .now) _ (c .before .before .before .before .before .word-end .ensures))) ∙ sym (c .before .before .before .called-by .ensures) ∙ c .before .enum-told .given .1), ← c .before .before .before .before .before .word-end .ensures) (c .by-body .ensures)
+
+returns-4 : tie.Need-returns-4
+returns-4 c =
+    let a = c .before .before .before .before .before .before .before .before .before .before .args in
+    rw (line-by (a .line .now) (c .before .before .before .before .before .before .before .if1 .left) _ (ap called (sym (word-first (a .line .now) _ (c .before .before .before .before .before .before .word-end .ensures))) ∙ sym (c .before .before .before .before .called-by .ensures) ∙ c .before .before .enum-told2 .given .1)) (c .bad .ensures)
+
+pub answer-spec : {M : Type 1} → statement M
+answer-spec =
+    tie.close
+    (tie.spec
+    over-requires
+    returns
+    word-end-requires
+    slice-aggregate-called-by
+    called-by-requires
+    enum-known-kind
+    by-kind-requires
+    enum-told
+    by-body-requires
+    enum-told-2
+    slice-aggregate-bad
+    bad-requires
+    returns-2
+    returns-3
+    returns-4)

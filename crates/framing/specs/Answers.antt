@@ -1,0 +1,98 @@
+-- What is printed of a line. Assumes nothing.
+use mathlib.Core.List.{List, [], _∷_}
+use Prim.Native.Nat.{ℕ, _+_, _/_}
+use lib.ListN.{length, take, drop, getD}
+use Rattle.base.specs.Choice.{choose}
+use Rattle.base.specs.Bytes.{bytesOf}
+use Rattle.fields.specs.Fields.{width8}
+use Rattle.text.specs.Putting.{hexText}
+use Rattle.wire.specs.Laying.{bodyOf}
+use Rattle.wire.specs.declared.laying.Laid.{Laid}
+use Rattle.wire.specs.declared.laying.Laid.the-variants as laid
+use Rattle.frames.specs.Kinds.{appOf, dataLen, isSafe}
+use Rattle.frames.specs.Reading.{readFrame}
+use Rattle.frames.specs.Writing.{writtenOf}
+use Rattle.frames.specs.declared.kinds.Frame.{Frame}
+use Rattle.frames.specs.declared.reading.Reading.{Reading}
+use Rattle.frames.specs.declared.reading.Reading.the-variants.{Taken, Length, Stuffing, Size, Fcs, Reserved, Kind, Form, Check}
+use Rattle.frame_fields.specs.Chars.{chars}
+use Rattle.frame_fields.specs.Table.{Field, kindWord, fieldsOf, hasData}
+use Rattle.frame_fields.specs.Numbers.{kindOf, numbersOf, frameOf, addressOf, datlOf}
+use Rattle.frame_fields.specs.Texts.{noText, put, puts}
+use Rattle.framing.specs.Said.{badText, refusedText}
+use Rattle.framing.specs.Outcome.{Outcome, build, explain, complain, outcomeOf}
+use Rattle.frame_fields.specs.declared.table.Kind as table
+use Rattle.frame_fields.specs.declared.texts.Text.{Text}
+
+-- ---- a frame built: the body as it stands between the flags, or the writer's refusal, 5 or 8
+-- 600 bytes are room for any frame
+abbrev pub byLaid : Laid → List ℕ → Text
+byLaid (laid.Sent n) body = put noText (hexText body)
+byLaid laid.Reserved body = refusedText Reserved
+byLaid laid.Form body = refusedText Form
+byLaid laid.Room body = noText
+
+unfoldable pub frameBuilt : ℕ → Frame → List ℕ → Text
+frameBuilt a f xs = byLaid (writtenOf 600 a f xs) (bodyOf a (appOf f xs))
+
+unfoldable pub builtText : table.Kind → List ℕ → List ℕ → Text
+builtText k vs xs = frameBuilt (addressOf k vs) (frameOf k vs (datlOf (length xs))) xs
+
+-- ---- a frame explained: its kind, its fields, its data
+unfoldable pub putField : Text → Field → ℕ → Text
+putField t f v = puts t (chars " " ∷ f .0 ∷ hexText (bytesOf (width8 (f .1 / 2)) v) ∷ [])
+
+unfoldable pub putFields : List Field → List ℕ → ℕ → Text → Text
+putFields [] vs i t = t
+putFields (f ∷ fs) vs i t = putFields fs vs (i + 1) (putField t f (getD vs i 0))
+
+-- the data bytes in the application data: at 12 in safe frames, at 5 in others
+unfoldable pub dataOf : Frame → List ℕ → List ℕ
+dataOf f bytes = take (dataLen f) (drop (choose (isSafe f) 12 5) bytes)
+
+unfoldable pub frameText : ℕ → Frame → List ℕ → Text
+frameText a f bytes =
+    choose (hasData (kindOf f))
+    (puts (putFields (fieldsOf (kindOf f)) (numbersOf a f) 0 (put noText (kindWord (kindOf f)))) (chars " data=" ∷ hexText (dataOf f bytes) ∷ []))
+    (putFields (fieldsOf (kindOf f)) (numbersOf a f) 0 (put noText (kindWord (kindOf f))))
+
+-- or the reader's refusal
+abbrev pub byReading : Reading → List ℕ → Text
+byReading (Taken a f) bytes = frameText a f bytes
+byReading Length bytes = refusedText Length
+byReading Stuffing bytes = refusedText Stuffing
+byReading Size bytes = refusedText Size
+byReading Fcs bytes = refusedText Fcs
+byReading Reserved bytes = refusedText Reserved
+byReading Kind bytes = refusedText Kind
+byReading Form bytes = refusedText Form
+byReading Check bytes = refusedText Check
+
+unfoldable pub explainedText : List ℕ → Text
+explainedText body = byReading (readFrame body .reading) (readFrame body .bytes)
+
+-- ---- a line and its number
+abbrev pub said : List ℕ → Outcome → Text
+said number (build k vs xs) = builtText k vs xs
+said number (explain body) = explainedText body
+said number (complain words) = badText number words
+
+abbrev pub answerOf : List ℕ → List ℕ → Text
+answerOf number s = said number (outcomeOf s)
+
+-- a line that is too long
+abbrev pub overText : List ℕ → Text
+overText number = badText number (chars "over 1,200 characters" ∷ [])
+
+-- ---- the grammar: x for each digit
+unfoldable pub formField : Text → Field → Text
+formField t f = puts t (chars " " ∷ f .0 ∷ take (f .1) (chars "xxxxxxxxxxxxxxxx") ∷ [])
+
+unfoldable pub formFields : List Field → Text → Text
+formFields [] t = t
+formFields (f ∷ fs) t = formFields fs (formField t f)
+
+unfoldable pub formText : table.Kind → Text
+formText k =
+    choose (hasData k) (put (formFields (fieldsOf k) (put noText (kindWord k))) (chars " data=xx..."))
+    (formFields (fieldsOf k) (put noText (kindWord k)))

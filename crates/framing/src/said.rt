@@ -1,0 +1,59 @@
+// What is printed of a line that is wrong, and of a refusal.
+ghost use mathlib.Core.Path.{_≡_};
+ghost use mathlib.Core.List.{[], _∷_};
+ghost use Prim.Native.Nat.{_*_, _<_};
+ghost use lib.ListN.{getD};
+ghost use Rattle.frame_fields.specs.Words.{wordAt};
+ghost use Rattle.framing.specs.Said.{badStart, badText, wants, refusedText};
+use frame_fields::table::Form;
+use frame_fields::texts;
+use frame_fields::texts::Text;
+use frames::reading::Reading;
+
+// The line's number, before the first thing that is wrong.
+fn bad_start(number: &[u8]) -> Text
+    ensures { λ r. ⌜ r ≡ badStart (now (number .entry)) ⌝ }
+{
+    let t = texts::add(texts::no_text(), number);
+    texts::add(t, b" BAD: ")
+}
+
+pub fn bad(number: &[u8], words: &[u8]) -> Text
+    ensures { λ r. ⌜ r ≡ badText (now (number .entry)) (now (words .entry) ∷ []) ⌝ }
+{
+    texts::add(bad_start(number), words)
+}
+
+// A field of a form that is missing or another.
+pub fn wants_digits(number: &[u8], form: Form, i: usize) -> Text
+    requires { ⌜ i < 8 ⌝ }
+    ensures { λ r. ⌜ r ≡ badText (now (number .entry)) (wants (wordAt (form .names) (i * 8)) (getD (form .digits) i 0)) ⌝ }
+{
+    let names = form.names;
+    let digits = form.digits;
+    let t = texts::add_word(bad_start(number), &names, i * 8);
+    let u = texts::add(t, b" wants ");
+    let v = texts::add_count(u, digits[i]);
+    texts::add(v, b" hex digits")
+}
+
+// Document 01's number and its words.
+pub fn refused(reading: Reading) -> Text
+    ensures { λ r. ⌜ r ≡ refusedText reading ⌝ }
+{
+    let t = texts::no_text();
+    match reading {
+        Reading::Taken(_, _) => texts::add(t, b""),
+        Reading::Length => texts::add(t, b"refused 1: body not 7 to 543 bytes"),
+        Reading::Stuffing => texts::add(t, b"refused 2: stuffing"),
+        Reading::Size => texts::add(t, b"refused 3: unstuffed length not 7 to 272"),
+        Reading::Fcs => texts::add(t, b"refused 4: FCS"),
+        Reading::Reserved => texts::add(t, b"refused 5: reserved address"),
+        Reading::Kind => texts::add(t, b"refused 7: TYP not built"),
+        Reading::Form => texts::add(
+            t,
+            b"refused 8: length, COM or sync address wrong for the TYP",
+        ),
+        Reading::Check => texts::add(t, b"refused 9: safety CRC"),
+    }
+}
