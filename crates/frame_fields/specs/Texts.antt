@@ -1,9 +1,7 @@
 -- A text put together piece by piece: each is added whole, or not at all where it does not fit. Assumes nothing.
 use mathlib.Core.List.{List, [], _∷_}
-use Prim.Native.Nat.{ℕ, _+_, _/_, _%_}
-use lib.Dec.{ltb}
+use Prim.Native.Nat.{ℕ}
 use lib.ListN.{length, replicate, take}
-use Rattle.base.specs.Choice.{choose}
 use Rattle.text.specs.Putting.{putAt, placeAfter}
 use Rattle.frame_fields.specs.declared.texts.Text.{Text}
 
@@ -21,7 +19,3 @@ textIn t = take (t .len) (t .bytes)
 abbrev pub puts : Text → List (List ℕ) → Text
 puts t [] = t
 puts t (s ∷ ss) = puts (put t s) ss
-
--- a number below 100 in decimal
-unfoldable pub countText : ℕ → List ℕ
-countText n = choose (ltb n 10) ((n + 0x30) ∷ []) ((n / 10 + 0x30) ∷ (n % 10 + 0x30) ∷ [])

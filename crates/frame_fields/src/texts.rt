@@ -1,10 +1,12 @@
 // Text put together for output, by value: each piece is added whole, or not at all where it does not fit.
 ghost use mathlib.Core.Path.{_≡_};
+ghost use Rattle.text.specs.Decimal.{decimalText};
 ghost use Rattle.text.specs.Putting.{hexText};
 ghost use Rattle.frame_fields.specs.Words.{wordAt};
-ghost use Rattle.frame_fields.specs.Texts.{noText, countText};
+ghost use Rattle.frame_fields.specs.Texts.{noText};
 ghost use Rattle.frame_fields.specs.Texts.{put as Texts·put};
 use crate::words;
+use text::decimal;
 use text::putting;
 
 // The longest is a body of 543 bytes in hex digits.
@@ -40,14 +42,19 @@ pub fn add_hex(t: Text, s: &[u8]) -> Text
     Text { bytes, len }
 }
 
-// A number below 100 in decimal.
-pub fn add_count(t: Text, n: u8) -> Text
-    ensures { λ r. ⌜ r ≡ Texts·put t (countText n) ⌝ }
+// A number in decimal.
+pub fn add_number(t: Text, n: u64) -> Text
+    ensures { λ r. ⌜ r ≡ Texts·put t (decimalText n) ⌝ }
 {
-    if n < 10 {
-        return add(t, &[n + 0x30]);
-    }
-    add(t, &[n / 10 + 0x30, n % 10 + 0x30])
+    let mut bytes = t.bytes;
+    let len = decimal::put_decimal(&mut bytes, t.len, n);
+    Text { bytes, len }
+}
+
+pub fn add_count(t: Text, n: u8) -> Text
+    ensures { λ r. ⌜ r ≡ Texts·put t (decimalText n) ⌝ }
+{
+    add_number(t, n as u64)
 }
 
 // The word that begins at a place of a row of columns.

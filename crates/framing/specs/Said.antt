@@ -1,10 +1,12 @@
 -- What is printed of a line that is wrong, and of a refusal. Assumes nothing.
 use mathlib.Core.List.{List, [], _∷_}
 use Prim.Native.Nat.{ℕ}
+use Rattle.text.specs.Decimal.{decimalText}
+use Rattle.frames.specs.Reading.{readingNumber}
 use Rattle.frames.specs.declared.reading.Reading.{Reading}
 use Rattle.frames.specs.declared.reading.Reading.the-variants.{Taken, Length, Stuffing, Size, Fcs, Reserved, Kind, Form, Check}
 use Rattle.frame_fields.specs.Chars.{chars}
-use Rattle.frame_fields.specs.Texts.{noText, put, puts, countText}
+use Rattle.frame_fields.specs.Texts.{noText, puts}
 use Rattle.frame_fields.specs.declared.texts.Text.{Text}
 
 -- the line's number and the first thing that is wrong
@@ -16,19 +18,23 @@ badText number words = puts (badStart number) words
 
 -- a field that is missing or another
 abbrev pub wants : List ℕ → ℕ → List (List ℕ)
-wants name digits = name ∷ chars " wants " ∷ countText digits ∷ chars " hex digits" ∷ []
+wants name digits = name ∷ chars " wants " ∷ decimalText digits ∷ chars " hex digits" ∷ []
 
 -- the table of words
 abbrev pub refusal : Reading → List ℕ
 refusal (Taken a f) = []
-refusal Length = chars "refused 1: body not 7 to 543 bytes"
-refusal Stuffing = chars "refused 2: stuffing"
-refusal Size = chars "refused 3: unstuffed length not 7 to 272"
-refusal Fcs = chars "refused 4: FCS"
-refusal Reserved = chars "refused 5: reserved address"
-refusal Kind = chars "refused 7: TYP not built"
-refusal Form = chars "refused 8: length, COM or sync address wrong for the TYP"
-refusal Check = chars "refused 9: safety CRC"
+refusal Length = chars "body not 7 to 543 bytes"
+refusal Stuffing = chars "stuffing"
+refusal Size = chars "unstuffed length not 7 to 272"
+refusal Fcs = chars "FCS"
+refusal Reserved = chars "reserved address"
+refusal Kind = chars "TYP not built"
+refusal Form = chars "length, COM or sync address wrong for the TYP"
+refusal Check = chars "safety CRC"
+
+-- document 01's number, and its words
+abbrev pub refusedStart : Reading → Text
+refusedStart r = puts noText (chars "refused " ∷ decimalText (readingNumber r) ∷ chars ": " ∷ [])
 
 abbrev pub refusedText : Reading → Text
-refusedText r = put noText (refusal r)
+refusedText r = puts (refusedStart r) (refusal r ∷ [])

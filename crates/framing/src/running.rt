@@ -31,11 +31,19 @@ fn answer_to(number: &[u8], line: &[u8], len: usize) -> Text {
     answering::answer(number, &line[0..len])
 }
 
+// The number is the first `k` characters.
+fn answer_numbered(number: &[u8], k: usize, line: &[u8], len: usize) -> Text {
+    if number.len() < k {
+        return texts::no_text();
+    }
+    answer_to(&number[0..k], line, len)
+}
+
 // The answer to the line behind `before` lines, written; whether it was.
 fn answer_line(before: u64, line: &[u8], len: usize) -> bool {
-    let mut digits = [0u8; 20];
-    let k = io::decimal(next_line(before), &mut digits);
-    write_line(answer_to(&digits[..k], line, len))
+    let number = texts::add_number(texts::no_text(), next_line(before));
+    let digits = number.bytes;
+    write_line(answer_numbered(&digits, number.len, line, len))
 }
 
 fn next_line(before: u64) -> u64 {

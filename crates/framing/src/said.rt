@@ -4,11 +4,12 @@ ghost use mathlib.Core.List.{[], _∷_};
 ghost use Prim.Native.Nat.{_*_, _<_};
 ghost use lib.ListN.{getD};
 ghost use Rattle.frame_fields.specs.Words.{wordAt};
-ghost use Rattle.framing.specs.Said.{badStart, badText, wants, refusedText};
+ghost use Rattle.framing.specs.Said.{badStart, badText, wants, refusedStart, refusedText};
 use frame_fields::table::Form;
 use frame_fields::texts;
 use frame_fields::texts::Text;
 use frames::reading::Reading;
+use frames::reading::reading_number;
 
 // The line's number, before the first thing that is wrong.
 fn bad_start(number: &[u8]) -> Text
@@ -37,23 +38,29 @@ pub fn wants_digits(number: &[u8], form: Form, i: usize) -> Text
     texts::add(v, b" hex digits")
 }
 
-// Document 01's number and its words.
+// Document 01's number.
+fn refused_start(reading: Reading) -> Text
+    ensures { λ r. ⌜ r ≡ refusedStart reading ⌝ }
+{
+    let t = texts::add(texts::no_text(), b"refused ");
+    let u = texts::add_count(t, reading_number(reading));
+    texts::add(u, b": ")
+}
+
+// And its words.
 pub fn refused(reading: Reading) -> Text
     ensures { λ r. ⌜ r ≡ refusedText reading ⌝ }
 {
-    let t = texts::no_text();
+    let t = refused_start(reading);
     match reading {
         Reading::Taken(_, _) => texts::add(t, b""),
-        Reading::Length => texts::add(t, b"refused 1: body not 7 to 543 bytes"),
-        Reading::Stuffing => texts::add(t, b"refused 2: stuffing"),
-        Reading::Size => texts::add(t, b"refused 3: unstuffed length not 7 to 272"),
-        Reading::Fcs => texts::add(t, b"refused 4: FCS"),
-        Reading::Reserved => texts::add(t, b"refused 5: reserved address"),
-        Reading::Kind => texts::add(t, b"refused 7: TYP not built"),
-        Reading::Form => texts::add(
-            t,
-            b"refused 8: length, COM or sync address wrong for the TYP",
-        ),
-        Reading::Check => texts::add(t, b"refused 9: safety CRC"),
+        Reading::Length => texts::add(t, b"body not 7 to 543 bytes"),
+        Reading::Stuffing => texts::add(t, b"stuffing"),
+        Reading::Size => texts::add(t, b"unstuffed length not 7 to 272"),
+        Reading::Fcs => texts::add(t, b"FCS"),
+        Reading::Reserved => texts::add(t, b"reserved address"),
+        Reading::Kind => texts::add(t, b"TYP not built"),
+        Reading::Form => texts::add(t, b"length, COM or sync address wrong for the TYP"),
+        Reading::Check => texts::add(t, b"safety CRC"),
     }
 }

@@ -3,8 +3,8 @@ use borrow.Author.Needs.{needs}
 use Rattle.framing.proofs.said.refused.Statement.{statement}
 use Rattle.framing.proofs.said.refused.Tie as tie
 
-no-text-requires : tie.Need-no-text-requires
-no-text-requires c κs = search needs
+refused-start-requires : tie.Need-refused-start-requires
+refused-start-requires c κs = search needs
 
 enum-told : tie.Need-enum-told
 enum-told c = search needs
@@ -88,37 +88,37 @@ add-requires-9 : tie.Need-add-requires-9
 add-requires-9 c κs = search needs
 
 returns : tie.Need-returns
-returns c = rw (c .before .before .enum-told .given .1, c .add .ensures, c .before .before .before .before .no-text .ensures)
+returns c = rw (c .add .ensures, c .before .before .before .before .refused-start .ensures, c .before .before .enum-told .given .1)
 
 returns-2 : tie.Need-returns-2
-returns-2 c = rw (c .before .before .enum-told2 .given .1, c .add2 .ensures, c .before .before .before .before .no-text .ensures)
+returns-2 c = rw (c .add2 .ensures, c .before .before .before .before .refused-start .ensures, c .before .before .enum-told2 .given .1)
 
 returns-3 : tie.Need-returns-3
-returns-3 c = rw (c .before .before .enum-told3 .given .1, c .add3 .ensures, c .before .before .before .before .no-text .ensures)
+returns-3 c = rw (c .add3 .ensures, c .before .before .before .before .refused-start .ensures, c .before .before .enum-told3 .given .1)
 
 returns-4 : tie.Need-returns-4
-returns-4 c = rw (c .before .before .enum-told4 .given .1, c .add4 .ensures, c .before .before .before .before .no-text .ensures)
+returns-4 c = rw (c .add4 .ensures, c .before .before .before .before .refused-start .ensures, c .before .before .enum-told4 .given .1)
 
 returns-5 : tie.Need-returns-5
-returns-5 c = rw (c .before .before .enum-told5 .given .1, c .add5 .ensures, c .before .before .before .before .no-text .ensures)
+returns-5 c = rw (c .add5 .ensures, c .before .before .before .before .refused-start .ensures, c .before .before .enum-told5 .given .1)
 
 returns-6 : tie.Need-returns-6
-returns-6 c = rw (c .before .before .enum-told6 .given .1, c .add6 .ensures, c .before .before .before .before .no-text .ensures)
+returns-6 c = rw (c .add6 .ensures, c .before .before .before .before .refused-start .ensures, c .before .before .enum-told6 .given .1)
 
 returns-7 : tie.Need-returns-7
-returns-7 c = rw (c .before .before .enum-told7 .given .1, c .add7 .ensures, c .before .before .before .before .no-text .ensures)
+returns-7 c = rw (c .add7 .ensures, c .before .before .before .before .refused-start .ensures, c .before .before .enum-told7 .given .1)
 
 returns-8 : tie.Need-returns-8
-returns-8 c = rw (c .before .before .enum-told8 .given .1, c .add8 .ensures, c .before .before .before .before .no-text .ensures)
+returns-8 c = rw (c .add8 .ensures, c .before .before .before .before .refused-start .ensures, c .before .before .enum-told8 .given .1)
 
 returns-9 : tie.Need-returns-9
-returns-9 c = rw (c .before .before .enum-told9 .given .1, c .add9 .ensures, c .before .before .before .before .no-text .ensures)
+returns-9 c = rw (c .add9 .ensures, c .before .before .before .before .refused-start .ensures, c .before .before .enum-told9 .given .1)
 
 pub refused-spec : {M : Type 1} → statement M
 refused-spec =
     tie.close
     (tie.spec
-    no-text-requires
+    refused-start-requires
     enum-told
     slice-aggregate-add
     add-requires
