@@ -19,7 +19,7 @@ extern "C" {
 /* the state, field by field as in crates/rules/src/lib.rt; 304 bytes, aligned to 4 */
 typedef struct saturn_agent {
     uint8_t regs[256]; /* the registers */
-    uint32_t known[8]; /* the recorded concentrators, the first `count` of them */
+    uint32_t known[8]; /* the recorded concentrators, the first `count` of them; power-up puts FFFFFFh in all */
     uint32_t last;     /* the source of the last accepted sync; FFFFFFh for none */
     uint16_t silence;  /* s: ms since the last accepted sync, stops at 65,535 */
     uint16_t idle;     /* q: ms since the last output write or entry to RUN */
