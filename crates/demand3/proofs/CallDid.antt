@@ -19,12 +19,14 @@ use Rattle.frames.specs.declared.kinds.Frame.the-variants.{Sync, SafeRead, Safe
 use Rattle.frames.specs.declared.reading.Read.{Read}
 use Rattle.frames.specs.declared.reading.Read.the-variants.{Taken, Kind, Form, Check}
 use Rattle.frames.proofs.Receiving.{appIn}
+use Rattle.rules.specs.Answers.{typ}
 use Rattle.rules.specs.Calls.{leastRoom, tickCall, inputCall, frameCall, Call, tick, input, frame, act}
 use Rattle.rules.specs.FrameCall.{onKind, agentRead, onRead, isOwn, onApp, onVerdict, onBody, onFrame}
 use Rattle.rules.specs.Good.{Good, BytesCall}
 use Rattle.rules.specs.Inputs.{withInputs}
 use Rattle.rules.specs.Marks.{lineMarked, formatMarked}
 use Rattle.rules.specs.Registers.{inputsAt, image}
+use Rattle.rules.specs.Replies.{does}
 use Rattle.rules.specs.Requests.{reads, writes}
 use Rattle.rules.specs.Sound.{sound}
 use Rattle.rules.specs.declared.Agent.{Agent}
@@ -70,25 +72,28 @@ module _ (a : Agent) (good : Good a) where
         }
         port
 
+    unserved : Shown a call (does typ (formatMarked a))
+    unserved = also a call a (formatMarked a) (format-view a) (refuses a call u 7 refl refl)
+
     kind-did : (f : Frame) (xs : List ℕ) → Carries call f xs → Shown a call (onKind port a f xs)
     kind-did (Sync src cyc) xs f = sync-did a good call u src cyc xs f port
     kind-did (SafeRead dest src cyc seq datl add) xs f = read-did dest src cyc seq datl add xs f
     kind-did (SafeWrite dest src cyc seq datl add) xs f = write-did dest src cyc seq datl add xs f
     kind-did (TidAssignment src iid tid) xs f = tid-did a call u src iid tid xs f
     kind-did (SidAssignment src sec mac sid) xs f = sid-did a call u (good .registers) src sec mac sid xs f
-    kind-did (PlainRead src datl add) xs f = refuses a call u 7 refl refl
-    kind-did (PlainWrite src datl add) xs f = refuses a call u 7 refl refl
-    kind-did (SafeResponse dest src cyc seq kind datl add stat) xs f = refuses a call u 7 refl refl
-    kind-did (PlainSyncResponse src datl add stat) xs f = refuses a call u 7 refl refl
-    kind-did (PlainResponse src kind datl add) xs f = refuses a call u 7 refl refl
+    kind-did (PlainRead src datl add) xs f = unserved
+    kind-did (PlainWrite src datl add) xs f = unserved
+    kind-did (SafeResponse dest src cyc seq kind datl add stat) xs f = unserved
+    kind-did (PlainSyncResponse src datl add stat) xs f = unserved
+    kind-did (PlainResponse src kind datl add) xs f = unserved
     kind-did (SidAssignment4 src sec mac sid sid2 src2) xs f = refuses a call u 8 refl refl
-    kind-did (Acknowledgement src dst sec mac) xs f = refuses a call u 7 refl refl
-    kind-did (Invariants dest src cyc seq config logic) xs f = refuses a call u 7 refl refl
+    kind-did (Acknowledgement src dst sec mac) xs f = unserved
+    kind-did (Invariants dest src cyc seq config logic) xs f = unserved
 
     -- ---- by what the module read, and by the verdict on the body
     read-of : (r : Read) (s : List ℕ) → ((f : Frame) → r ≡ Taken f → Carries call f (dataIn f s)) → Shown a call (onRead port a r s)
     read-of (Taken f) s c = kind-did f (dataIn f s) (c f refl)
-    read-of Kind s c = also a call a (formatMarked a) (format-view a) (refuses a call u 7 refl refl)
+    read-of Kind s c = unserved
     read-of Form s c = refuses a call u 8 refl refl
     read-of Check s c = refuses a call u 9 refl refl
 

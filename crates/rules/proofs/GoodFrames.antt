@@ -56,14 +56,14 @@ module _ (port : ℕ) (a : Agent) (g : GoodTo 254 a) where
   good-kind (SafeWrite dest src cyc seq datl add) xs h b = good-request port a g (writes add xs) b dest src cyc seq
   good-kind (TidAssignment src iid tid) xs h b = good-on-tid a iid tid g
   good-kind (SidAssignment src sec mac sid) xs h b = good-on-sid a src sec mac sid g (omega (arith, h)) (omega (arith, h))
-  good-kind (PlainRead src datl add) xs h b = good-does _ a g
-  good-kind (PlainWrite src datl add) xs h b = good-does _ a g
-  good-kind (SafeResponse dest src cyc seq kind datl add stat) xs h b = good-does _ a g
-  good-kind (PlainSyncResponse src datl add stat) xs h b = good-does _ a g
-  good-kind (PlainResponse src kind datl add) xs h b = good-does _ a g
+  good-kind (PlainRead src datl add) xs h b = good-does _ _ (good-format 254 a g)
+  good-kind (PlainWrite src datl add) xs h b = good-does _ _ (good-format 254 a g)
+  good-kind (SafeResponse dest src cyc seq kind datl add stat) xs h b = good-does _ _ (good-format 254 a g)
+  good-kind (PlainSyncResponse src datl add stat) xs h b = good-does _ _ (good-format 254 a g)
+  good-kind (PlainResponse src kind datl add) xs h b = good-does _ _ (good-format 254 a g)
   good-kind (SidAssignment4 src sec mac sid sid2 src2) xs h b = good-does _ a g
-  good-kind (Acknowledgement src dst sec mac) xs h b = good-does _ a g
-  good-kind (Invariants dest src cyc seq config logic) xs h b = good-does _ a g
+  good-kind (Acknowledgement src dst sec mac) xs h b = good-does _ _ (good-format 254 a g)
+  good-kind (Invariants dest src cyc seq config logic) xs h b = good-does _ _ (good-format 254 a g)
 
   good-read : (r : Read) (s : List ℕ) → FitWhere r → Bytes s → GoodDeed (onRead port a r s)
   good-read (Taken f) s h b =

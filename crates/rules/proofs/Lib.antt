@@ -1,5 +1,6 @@
 pub mod BusTraps
 pub mod TakenFits
+pub mod ServedFrames
 pub mod Parts
 pub mod Recorded
 pub mod SoundParts

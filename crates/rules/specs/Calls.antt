@@ -1,6 +1,7 @@
 -- The calls, with the host's numbers first: 19, 20, 21. Assumes nothing.
 use mathlib.Core.Bool.{Bool, not, _||_}
 use mathlib.Core.List.{List, [], _++_}
+use mathlib.Core.Path.{_≡_}
 use Prim.Native.Nat.{ℕ}
 use lib.Dec.{eqb, ltb}
 use lib.ListN.{length, drop}
@@ -36,6 +37,15 @@ frameCall a port body room =
 -- the reply buffer afterwards: what was sent, and the bytes past it as they were
 abbrev pub leftIn : Outcome → List ℕ → List ℕ
 leftIn o buffer = o .line ++ drop (length (o .line)) buffer
+
+-- what a call hands back, held to what the rules make of it: the answer and the agent
+abbrev pub Answers : Outcome → ℕ → Agent → Type 0
+Answers o answer agent = (answer ≡ o .answer) × (agent ≡ o .agent)
+
+-- and of a frame call also how many bytes are sent, and the reply buffer, as it was and as it is left
+abbrev pub AnswersFrame : Outcome → ℕ → Agent → ℕ → List ℕ → List ℕ → Type 0
+AnswersFrame o answer agent sent before after =
+    (answer ≡ o .answer) × (agent ≡ o .agent) × (sent ≡ length (o .line)) × (after ≡ leftIn o before)
 
 -- a call of a list
 pub data Call : Type 0 where

@@ -1,5 +1,5 @@
 -- The frame call: numbers 1 to 9, and then by the kind of frame. Assumes nothing.
-use mathlib.Core.Bool.{Bool, not, _&&_, _||_}
+use mathlib.Core.Bool.{Bool, true, false, not, _&&_, _||_}
 use mathlib.Core.List.{List, []}
 use Prim.Native.Nat.{ℕ, _+_}
 use lib.Dec.{eqb}
@@ -27,22 +27,38 @@ use Rattle.rules.specs.Sync.{onSync}
 use Rattle.rules.specs.declared.Agent.{Agent}
 use Rattle.rules.specs.declared.Deed.{Deed}
 
--- by the kind of a served frame with its data
+-- by the kind of a served frame with its data; the others are not served, so 7 with its mark, and 8 for the SIL4 assignment,
+-- as `agentRead` has it already: it yields only frames that `serves` names (proofs/ServedFrames)
 abbrev pub onKind : ℕ → Agent → Frame → List ℕ → Deed
 onKind port a (Sync src cyc) xs = onSync port a src cyc
 onKind port a (SafeRead dest src cyc seq datl add) xs = onRequest port a dest src cyc seq (reads datl add)
 onKind port a (SafeWrite dest src cyc seq datl add) xs = onRequest port a dest src cyc seq (writes add xs)
 onKind port a (TidAssignment src iid tid) xs = onTid a iid tid
 onKind port a (SidAssignment src sec mac sid) xs = onSid a src sec mac sid
--- not served
-onKind port a (PlainRead src datl add) xs = does typ a
-onKind port a (PlainWrite src datl add) xs = does typ a
-onKind port a (SafeResponse dest src cyc seq kind datl add stat) xs = does typ a
-onKind port a (PlainSyncResponse src datl add stat) xs = does typ a
-onKind port a (PlainResponse src kind datl add) xs = does typ a
+onKind port a (PlainRead src datl add) xs = does typ (formatMarked a)
+onKind port a (PlainWrite src datl add) xs = does typ (formatMarked a)
+onKind port a (SafeResponse dest src cyc seq kind datl add stat) xs = does typ (formatMarked a)
+onKind port a (PlainSyncResponse src datl add stat) xs = does typ (formatMarked a)
+onKind port a (PlainResponse src kind datl add) xs = does typ (formatMarked a)
 onKind port a (SidAssignment4 src sec mac sid sid2 src2) xs = does form a
-onKind port a (Acknowledgement src dst sec mac) xs = does typ a
-onKind port a (Invariants dest src cyc seq config logic) xs = does typ a
+onKind port a (Acknowledgement src dst sec mac) xs = does typ (formatMarked a)
+onKind port a (Invariants dest src cyc seq config logic) xs = does typ (formatMarked a)
+
+-- the frames that this module serves: sync, safe request, TID assignment, SID assignment (SIL2)
+abbrev pub serves : Frame → Bool
+serves (Sync src cyc) = true
+serves (SafeRead dest src cyc seq datl add) = true
+serves (SafeWrite dest src cyc seq datl add) = true
+serves (TidAssignment src iid tid) = true
+serves (SidAssignment src sec mac sid) = true
+serves (PlainRead src datl add) = false
+serves (PlainWrite src datl add) = false
+serves (SafeResponse dest src cyc seq kind datl add stat) = false
+serves (PlainSyncResponse src datl add stat) = false
+serves (PlainResponse src kind datl add) = false
+serves (SidAssignment4 src sec mac sid sid2 src2) = false
+serves (Acknowledgement src dst sec mac) = false
+serves (Invariants dest src cyc seq config logic) = false
 
 -- served: 00h, 07h, 3Ch, C3h
 unfoldable pub served : ℕ → Bool
