@@ -21,6 +21,7 @@ use Rattle.frames.proofs.TakenStands.{stands}
 use Rattle.frames.proofs.kinds.Frame.{the-type}
 use Rattle.rules.specs.Answers.{typ}
 use Rattle.rules.specs.FrameCall.{onKind, served, isSil4, agentRead}
+use Rattle.rules.specs.Marks.{formatMarked}
 use Rattle.rules.specs.Replies.{does}
 use Rattle.rules.specs.Requests.{writes, onRequest}
 use Rattle.rules.specs.declared.Agent.{Agent}
@@ -72,7 +73,7 @@ module _ (port : ℕ) (a : Agent) (s : List ℕ) where
       e ∙ ap (λ (xs : List ℕ). onRequest port a dest src cyc seq (writes add xs)) (ap (λ (k : ℕ). take k (drop 12 s)) n ∙ sym (write-data dest src cyc seq datl add s))
 
   -- the kinds that are not served
-  pub not-served : (f : Frame) → OneOf (3 ∷ 4 ∷ 5 ∷ 6 ∷ 7 ∷ 11 ∷ 12 ∷ []) (tagOf the-type f) → does typ a ≡ onKind port a f (dataIn f s)
+  pub not-served : (f : Frame) → OneOf (3 ∷ 4 ∷ 5 ∷ 6 ∷ 7 ∷ 11 ∷ 12 ∷ []) (tagOf the-type f) → does typ (formatMarked a) ≡ onKind port a f (dataIn f s)
   not-served (PlainRead src datl add) k = refl
   not-served (PlainWrite src datl add) k = refl
   not-served (SafeResponse dest src cyc seq cmd datl add stat) k = refl

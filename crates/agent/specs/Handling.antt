@@ -1,11 +1,9 @@
 -- What a call hands back, held to what it does: answer, agent, how much was sent, and the reply buffer. Assumes nothing.
 use mathlib.Core.List.{List}
-use mathlib.Core.Path.{_≡_}
 use Prim.Native.Nat.{ℕ}
-use lib.ListN.{length}
 use Rattle.frames.specs.declared.kinds.Frame.{Frame}
 use Rattle.frames.specs.declared.kinds.Frame.the-variants.{Sync, SafeRead, SafeWrite, PlainRead, PlainWrite, SafeResponse, PlainSyncResponse, PlainResponse, TidAssignment, SidAssignment, SidAssignment4, Acknowledgement, Invariants}
-use Rattle.rules.specs.Calls.{leftIn}
+use Rattle.rules.specs.Calls.{AnswersFrame}
 use Rattle.rules.specs.Replies.{Outcome}
 use Rattle.rules.specs.declared.Agent.{Agent}
 use Rattle.wire.specs.declared.laying.Laid.{Laid}
@@ -14,8 +12,7 @@ use Rattle.agent.specs.declared.calls.Handled.{Handled}
 use Rattle.agent.specs.declared.sending.Part.{Part}
 
 abbrev pub Handles : Outcome → Handled → List ℕ → List ℕ → Type 0
-Handles o r before after =
-    (r .answer ≡ o .answer) × (r .agent ≡ o .agent) × (r .sent ≡ length (o .line)) × (after ≡ leftIn o before)
+Handles o r before after = AnswersFrame o (r .answer) (r .agent) (r .sent) before after
 
 -- nothing sent
 abbrev pub unsent : ℕ → Agent → Handled

@@ -1,7 +1,6 @@
 // The calls, with the host's numbers first: 19, 20, 21.
-ghost use mathlib.Core.Path.{_≡_};
 ghost use lib.ListN.{length};
-ghost use Rattle.rules.specs.Calls.{tickCall, inputCall, frameCall, leftIn};
+ghost use Rattle.rules.specs.Calls.{tickCall, inputCall, frameCall, Answers, AnswersFrame};
 use crate::answers::ACCEPTED;
 use crate::answers::HOST_INPUT;
 use crate::answers::REPLY_ROOM;
@@ -21,7 +20,7 @@ pub struct Told {
 }
 
 pub fn tick(a: Agent) -> Told
-    ensures { λ r. ⌜ (r .answer ≡ tickCall a .answer) × (r .agent ≡ tickCall a .agent) ⌝ }
+    ensures { λ r. ⌜ Answers (tickCall a) (r .answer) (r .agent) ⌝ }
 {
     if sound(a) {
         let next = crate::tick::tick(a);
@@ -37,7 +36,7 @@ pub fn tick(a: Agent) -> Told
 }
 
 pub fn inputs(a: Agent, xs: &[u8]) -> Told
-    ensures { λ r. ⌜ (r .answer ≡ inputCall a (now (xs .entry)) .answer) × (r .agent ≡ inputCall a (now (xs .entry)) .agent) ⌝ }
+    ensures { λ r. ⌜ Answers (inputCall a (now (xs .entry))) (r .answer) (r .agent) ⌝ }
 {
     if sound(a) {
         if xs.len() == IMAGE {
@@ -70,7 +69,7 @@ pub struct Handled {
 
 // A body that came on a port, with a buffer for a reply, whose bytes past what is sent keep their value.
 pub fn frame(a: Agent, port: u8, body: &[u8], reply: &mut [u8]) -> Handled
-    ensures { λ r. ⌜ (r .answer ≡ frameCall a port (now (body .entry)) (length (now (reply .entry))) .answer) × (r .agent ≡ frameCall a port (now (body .entry)) (length (now (reply .entry))) .agent) × (r .sent ≡ length (frameCall a port (now (body .entry)) (length (now (reply .entry))) .line)) × (now (reply .exit) ≡ leftIn (frameCall a port (now (body .entry)) (length (now (reply .entry)))) (now (reply .entry))) ⌝ }
+    ensures { λ r. ⌜ AnswersFrame (frameCall a port (now (body .entry)) (length (now (reply .entry)))) (r .answer) (r .agent) (r .sent) (now (reply .entry)) (now (reply .exit)) ⌝ }
 {
     if !sound(a) {
         return unsent(UNSOUND, a);

@@ -60,7 +60,7 @@ fn on_kind(port: u8, a: Agent, f: Frame, s: &[u8]) -> Deed
         Frame::TidAssignment { iid, tid, .. } => on_tid(a, iid, tid),
         Frame::SidAssignment { src, sec, mac, sid } => on_sid(a, src, sec, mac, sid),
         Frame::SidAssignment4 { .. } => does(FORM, a),
-        _ => does(TYP, a),
+        _ => does(TYP, format_marked(a)),
     }
 }
 

@@ -61,6 +61,9 @@ enum-told c = search needs
 does-requires : tie.Need-does-requires
 does-requires c κs = search needs
 
+format-marked-requires : tie.Need-format-marked-requires
+format-marked-requires c κs = search needs
+
 does-requires-2 : tie.Need-does-requires-2
 does-requires-2 c κs = search needs
 
@@ -89,7 +92,9 @@ returns-6 : tie.Need-returns-6
 returns-6 c = (rw (c .before .enum-told .given .1) (c .does .ensures .0), c .does .ensures .1)
 
 returns-7 : tie.Need-returns-7
-returns-7 c = let a = c .before .before .before .args in (c .does2 .ensures .0 ∙ not-served (a .port) (a .a) (a .s .now) (a .f) (c .before .match .keys7), c .does2 .ensures .1)
+returns-7 c =
+    let a = c .before .before .before .before .args in
+    (rw (← (c .before .format-marked .ensures)) (c .does2 .ensures .0) ∙ not-served (a .port) (a .a) (a .s .now) (a .f) (c .before .before .match .keys7), c .does2 .ensures .1)
 
 pub on-kind-spec : {M : Type 1} → statement M
 on-kind-spec =
@@ -112,6 +117,7 @@ on-kind-spec =
     on-sid-requires
     enum-told
     does-requires
+    format-marked-requires
     does-requires-2
     returns
     returns-2
