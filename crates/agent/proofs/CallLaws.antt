@@ -6,34 +6,29 @@ use Prim.Native.Nat.{ℕ}
 use borrow.Author.Tests.{eq-eqb, ne-eqb}
 use lib.ListN.{length}
 use Rattle.rules.specs.Answers.{accepted, unsound, hostInput}
-use Rattle.rules.specs.Calls.{tickCall, inputCall}
+use Rattle.rules.specs.Calls.{Answers, tickCall, inputCall}
 use Rattle.rules.specs.Inputs.{withInputs}
 use Rattle.rules.specs.Registers.{image}
-use Rattle.rules.specs.Replies.{Outcome}
 use Rattle.rules.specs.Sound.{sound}
 use Rattle.rules.specs.Tick.{ticked}
 use Rattle.rules.specs.declared.Agent.{Agent}
 
--- an answer and an agent are those of an outcome
-abbrev pub Tells : Outcome → ℕ → Agent → Type 0
-Tells o n a = (n ≡ o .answer) × (a ≡ o .agent)
-
-pub tick-sound : (a b : Agent) (t : Bool) → t ≡ sound a → t ≡ true → b ≡ ticked a → Tells (tickCall a) accepted b
+pub tick-sound : (a b : Agent) (t : Bool) → t ≡ sound a → t ≡ true → b ≡ ticked a → Answers (tickCall a) accepted b
 unfolding tickCall
 tick-sound a b t d h e = rw (← d, h) (refl, e)
 
-pub tick-unsound : (a : Agent) (t : Bool) → t ≡ sound a → t ≡ false → Tells (tickCall a) unsound a
+pub tick-unsound : (a : Agent) (t : Bool) → t ≡ sound a → t ≡ false → Answers (tickCall a) unsound a
 unfolding tickCall
 tick-unsound a t d h = rw (← d, h) (refl, refl)
 
-pub inputs-taken : (a b : Agent) (xs : List ℕ) (t : Bool) → t ≡ sound a → t ≡ true → length xs ≡ image → b ≡ withInputs xs a → Tells (inputCall a xs) accepted b
+pub inputs-taken : (a b : Agent) (xs : List ℕ) (t : Bool) → t ≡ sound a → t ≡ true → length xs ≡ image → b ≡ withInputs xs a → Answers (inputCall a xs) accepted b
 unfolding inputCall
 inputs-taken a b xs t d h k e = rw (← d, h, eq-eqb (length xs) image k) (refl, e)
 
-pub inputs-refused : (a : Agent) (xs : List ℕ) (t : Bool) → t ≡ sound a → t ≡ true → (length xs ≡ image → ⊥) → Tells (inputCall a xs) hostInput a
+pub inputs-refused : (a : Agent) (xs : List ℕ) (t : Bool) → t ≡ sound a → t ≡ true → (length xs ≡ image → ⊥) → Answers (inputCall a xs) hostInput a
 unfolding inputCall
 inputs-refused a xs t d h k = rw (← d, h, ne-eqb (length xs) image k) (refl, refl)
 
-pub inputs-unsound : (a : Agent) (xs : List ℕ) (t : Bool) → t ≡ sound a → t ≡ false → Tells (inputCall a xs) unsound a
+pub inputs-unsound : (a : Agent) (xs : List ℕ) (t : Bool) → t ≡ sound a → t ≡ false → Answers (inputCall a xs) unsound a
 unfolding inputCall
 inputs-unsound a xs t d h = rw (← d, h) (refl, refl)
