@@ -77,8 +77,8 @@ uint8_t saturn_tick(saturn_agent *agent);
 uint8_t saturn_inputs(saturn_agent *agent, const uint8_t *inputs, size_t inputs_length);
 
 /* A body that came on port 1 or 2, from the address to the FCS, still stuffed and without flags: the frame has its
- * effect, the first *sent bytes of reply are the whole reply with both flags, to be sent on, and the rest of reply is
- * as it was; *sent is 0 for no reply. For 19, 20 and 21 agent and reply are as they were and *sent is 0. */
+ * effect, the first *sent bytes of reply are the whole reply with both flags, to be sent on both ports, and the rest of
+ * reply is as it was; *sent is 0 for no reply. For 19, 20 and 21 agent and reply are as they were and *sent is 0. */
 uint8_t saturn_frame(saturn_agent *agent, uint8_t port, const uint8_t *body, size_t body_length, uint8_t *reply,
                      size_t reply_length, uint16_t *sent);
 

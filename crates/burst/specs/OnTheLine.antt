@@ -1,4 +1,5 @@
--- What that means on the line: a body whose unstuffed bytes were damaged so on the way is not taken. Assumes nothing.
+-- What that means on the line: a body whose unstuffed bytes were damaged so on the way, address and FCS among them, is not
+-- read, whichever of the numbers 1 to 5 refuses it. Assumes nothing.
 use mathlib.Core.Path.{_≡_}
 use mathlib.Core.List.{List, [], _∷_, _++_}
 use Prim.Native.Nat.{ℕ, _/_, _%_}

@@ -1,7 +1,6 @@
 -- What a CRC of 16 bits sees of damage, for every polynomial of a kind and so for the two of the bus; and where that ends.
--- On the line: a body in which at most 16 successive bits of the unstuffed bytes, address and FCS among them, were changed is refused with 4;
--- application data so changed under a right FCS, its safety CRC among it, is refused with 9 where no lower number refuses it. Damage that
--- makes or breaks a 7Dh or 7Eh on the line changes the length of what is read, and is not covered. Assumes nothing.
+-- What the FCS sees of a body that was read is stated in OnTheLine; of the safety CRC only what stands here, on the bytes it covers.
+-- Damage that makes or breaks a 7Dh or 7Eh on the line changes the length of what is read, and is not covered. Assumes nothing.
 use mathlib.Core.Path.{_≡_}
 use mathlib.Core.List.{List, [], _∷_, _++_}
 use Prim.Native.Nat.{ℕ, _+_, _*_, _%_, _^_, _<_}
