@@ -31,4 +31,4 @@ pub mod Refuses
 pub mod RefusesWrites
 pub mod RefusesData
 pub mod Proved
-pub mod RunsProved
+pub mod ReachedLaws

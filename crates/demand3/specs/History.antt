@@ -31,8 +31,12 @@ pub data History : Type 0 where
 abbrev pub seen : Agent → Seen
 seen a = record { mode = a .mode; out = λ i. reg a (outputsAt + i); t = tOf a; n = nOf a; m = mOf a }
 
+-- a call on the agent a, its answer, and the agent b that it left
+abbrev pub entryOf : Agent → Call → ℕ → Agent → Entry
+entryOf a call answer b = record { call = call; answer = answer; before = seen a; after = seen b }
+
 abbrev pub entry : Agent → Call → Outcome → Entry
-entry a call o = record { call = call; answer = o .answer; before = seen a; after = seen (o .agent) }
+entry a call o = entryOf a call (o .answer) (o .agent)
 
 -- each call on the agent as the one before left it
 abbrev pub history : Agent → History → List Call → History

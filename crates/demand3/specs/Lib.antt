@@ -3,4 +3,4 @@ pub mod History
 pub mod Words
 pub mod Claim
 pub mod Sharper
-pub mod Runs
+pub mod Reached
