@@ -9,6 +9,7 @@ pub mod Steps
 pub mod TickDid
 pub mod SyncDid
 pub mod Spans
+pub mod SameNumbers
 pub mod WriteDid
 pub mod RequestDid
 pub mod AssignmentDid

@@ -1,3 +1,4 @@
+pub mod Numbers
 pub mod Events
 pub mod History
 pub mod Words

@@ -8,8 +8,8 @@ use lib.ListN.{length, getD, take, drop, length-append}
 use lib.Seq.{length-take-le, take-at, drop-at, getD-drop, sets, sets-eq}
 use Rattle.rules.specs.Calls.{Call}
 use Rattle.rules.specs.declared.Agent.{Agent}
-use Rattle.demand3.specs.History.{History, _▸_, Seen, seen, entryOf}
-use Rattle.runs.specs.Log.{recordOf, recordSize, seenOf, seenIn, logged}
+use Rattle.demand3.specs.History.{History, _▸_, Seen, seenOf, seen, entryOf}
+use Rattle.runs.specs.Log.{recordOf, recordSize, seenIn, logged}
 
 -- a call that the code has made: what it answered, and the agent that it left
 pub record Finished : Type 0 where

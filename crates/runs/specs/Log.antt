@@ -5,10 +5,9 @@ use mathlib.Core.Path.{_≡_}
 use Prim.Native.Nat.{ℕ, _+_, _*_, _≤_}
 use lib.ListN.{length, getD, take, drop}
 use Rattle.rules.specs.Calls.{Call}
-use Rattle.rules.specs.Registers.{outputsAt, tcyc, cnfRep, cnfCyc}
 use Rattle.rules.specs.declared.Agent.{Agent}
 use Rattle.demand3.specs.Claim.{Holds}
-use Rattle.demand3.specs.History.{History, powerOn, _▸_, Seen}
+use Rattle.demand3.specs.History.{History, powerOn, _▸_, Seen, seenOf}
 use Rattle.demand3.specs.Reached.{Reached}
 use Rattle.demand3.specs.Sharper.{Sharper}
 use Rattle.runs.specs.CallBytes.{listBytes, AllMakable}
@@ -20,17 +19,7 @@ recordOf answer a = answer ∷ a .mode ∷ a .regs
 abbrev pub recordSize : ℕ
 recordSize = 258
 
--- what may be seen of an agent, by its mode and registers
-abbrev pub seenOf : ℕ → List ℕ → Seen
-seenOf mode regs = record {
-  mode = mode;
-  out = λ i. getD regs (outputsAt + i) 0;
-  t = getD regs tcyc 0;
-  n = getD regs cnfCyc 0;
-  m = getD regs cnfRep 0;
-}
-
--- by the log from a record on
+-- what may be seen of the agent, by the log from a record on
 abbrev pub seenIn : List ℕ → Seen
 seenIn l = seenOf (getD l 1 0) (take 256 (drop 2 l))
 
