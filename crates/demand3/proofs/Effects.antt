@@ -16,12 +16,13 @@ use Rattle.rules.specs.Calls.{Call, tick, input, frame}
 use Rattle.rules.specs.Fallback.{released, withheld}
 use Rattle.rules.specs.Registers.{outRep, outputsAt, image}
 use Rattle.rules.specs.Replies.{Outcome}
-use Rattle.rules.specs.Requests.{Ask, reads, writes, firstSeq, mostTaken}
+use Rattle.rules.specs.Requests.{Ask, reads, writes, mostTaken}
 use Rattle.rules.specs.Sources.{sidOf}
 use Rattle.rules.specs.State.{inRun, inFallback, isHeard, unheard, nobody, reg, tOf, nOf, mOf}
 use Rattle.rules.specs.Tick.{silenceEnd}
 use Rattle.rules.specs.declared.Agent.{Agent}
 use Rattle.demand3.specs.Events.{Event, aTick, aSync, aRequest, aRefusedWrite, anAssignment, nothing, eventOf, ordersRelease, writesOutputs, Request}
+use Rattle.demand3.specs.Numbers.{firstSeq}
 
 -- the parts of the agent that matter here
 pub record View : Type 0 where

@@ -9,6 +9,7 @@ pub mod Steps
 pub mod TickDid
 pub mod SyncDid
 pub mod Spans
+pub mod SameNumbers
 pub mod WriteDid
 pub mod RequestDid
 pub mod AssignmentDid
@@ -31,4 +32,4 @@ pub mod Refuses
 pub mod RefusesWrites
 pub mod RefusesData
 pub mod Proved
-pub mod RunsProved
+pub mod ReachedLaws

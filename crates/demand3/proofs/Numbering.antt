@@ -5,8 +5,9 @@ use mathlib.Core.Option.{Option, some}
 use mathlib.Core.Path.{_≡_, refl, ap}
 use Prim.Native.Nat.{ℕ, _+_, _%_, _≤_, _<_}
 use native.Mathlib.Omega.{arith}
-use Rattle.rules.specs.Requests.{firstSeq, mostTaken}
+use Rattle.rules.specs.Requests.{mostTaken}
 use Rattle.rules.specs.State.{isHeard, unheard}
+use Rattle.demand3.specs.Numbers.{firstSeq}
 use Rattle.demand3.specs.Words.{SyncOf, dueAfter, Differs, AllDiffer}
 
 -- x is one of f, f + 1, .. f + k - 1 modulo 256

@@ -10,21 +10,23 @@ use Rattle.base.proofs.Choosing.{by-test, and-left, and-right, or-left-false, o
 use Rattle.rules.specs.Calls.{Call}
 use Rattle.rules.specs.Good.{Good}
 use Rattle.rules.specs.Marks.{sequenceMarked}
-use Rattle.rules.specs.Requests.{Ask, reads, writes, mostTaken, firstSeq, distance, onAsk, onDistance, onRequest}
+use Rattle.rules.specs.Requests.{Ask, reads, writes, mostTaken, distance, onAsk, onDistance, onRequest}
 use Rattle.rules.specs.Sources.{sidOf}
 use Rattle.rules.specs.State.{isHeard, nobody, withTaken}
 use Rattle.rules.specs.declared.Agent.{Agent}
 use Rattle.demand3.specs.Events.{aRequest, aRefusedWrite, eventOf, writesOutputs, Request}
+use Rattle.demand3.specs.Numbers.{firstSeq}
 use Rattle.demand3.proofs.AgentViews.{sequence-view}
 use Rattle.demand3.proofs.Effects.{viewOf, takes, Due, LaidWrite, asked}
 use Rattle.demand3.proofs.FrameEvents.{Unheeded}
+use Rattle.demand3.proofs.SameNumbers.{same-first-seq}
 use Rattle.demand3.proofs.Steps.{Shown, also, read-replied, refuses}
 use Rattle.demand3.proofs.WriteDid.{takenBy, taken-view, write-did}
 
 -- the number at the distance k from the first
 due-number : (seq cyc k : ℕ) → seq < 256 → distance seq cyc ≡ k → seq ≡ (firstSeq cyc + k) % 256
 unfolding distance
-due-number seq cyc k b e = omega arith
+due-number seq cyc k b e = omega (arith, same-first-seq cyc)
 
 -- a call that asks for a write is a body laid down for it
 abbrev pub LaidAsk : Call → Request → Ask → Type 0

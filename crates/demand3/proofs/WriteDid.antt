@@ -7,7 +7,7 @@ use native.Mathlib.Omega.{arith}
 use borrow.Author.Tests.{eqb-true, eqb-false, not-true}
 use lib.Dec.{eqb}
 use lib.ListN.{length, getD}
-use Rattle.base.proofs.Choosing.{by-test, and-left, or-cases}
+use Rattle.base.proofs.Choosing.{by-test, and-left, and-true, or-cases}
 use Rattle.rules.specs.Calls.{Call}
 use Rattle.rules.specs.Fallback.{released, withheld}
 use Rattle.rules.specs.Good.{Good}
@@ -18,10 +18,11 @@ use Rattle.rules.specs.Writes.{spanOf, allowed, written, onWrite}
 use Rattle.rules.specs.declared.Agent.{Agent}
 use Rattle.rules.specs.declared.Span.{Span}
 use Rattle.rules.specs.declared.Span.the-variants.{Release, CycleTime, Limits, Counters, Config, Outputs, Outside}
-use Rattle.demand3.specs.Events.{aRequest, aRefusedWrite, eventOf, isRelease, ordersRelease, isOutputs, writesOutputs, Request}
+use Rattle.demand3.specs.Events.{aRequest, aRefusedWrite, eventOf, ordersRelease, writesOutputs, Request}
 use Rattle.demand3.proofs.AgentViews.{agree-refl, apart-view, fallen-view, release-view, limits-view, outputs-view}
 use Rattle.demand3.proofs.Effects.{viewOf, Agree, fallen, takes, limits, releases, outputs, Due, LaidWrite, takenOnly, asked, configured, releasedBy, withdrawn, output}
 use Rattle.demand3.proofs.RegisterViews.{apart-middle}
+use Rattle.demand3.proofs.SameNumbers.{isRelease, isOutputs, release-order, output-write}
 use Rattle.demand3.proofs.SoundFacts.{two-modes}
 use Rattle.demand3.proofs.Spans.{InSpan, in-span}
 use Rattle.demand3.proofs.Steps.{Leaves, Shown}
@@ -38,10 +39,10 @@ module _ (a : Agent) (good : Good a) (call : Call) (r : Request) (done : eventOf
     (passed : eventOf call 16 ≡ aRefusedWrite r) (due : Due (viewOf a) r) (add : ℕ) (xs : List ℕ) (is : r .ask ≡ writes add xs)
     (laid : LaidWrite call r add xs) where
   outputs-of : (span : Span) → spanOf add (length xs) ≡ span → writesOutputs (r .ask) ≡ isOutputs span
-  outputs-of span e = ap writesOutputs is ∙ ap isOutputs e
+  outputs-of span e = ap writesOutputs is ∙ output-write add xs ∙ ap isOutputs e
 
-  release-of : (span : Span) → spanOf add (length xs) ≡ span → ordersRelease (r .ask) ≡ isRelease span xs
-  release-of span e = ap ordersRelease is ∙ ap (λ (s : Span). isRelease s xs) e
+  release-of : spanOf add (length xs) ≡ Release → eqb (getD xs 0 0) released ≡ true → ordersRelease (r .ask) ≡ true
+  release-of e o = ap ordersRelease is ∙ release-order add xs ∙ and-true _ _ (ap isRelease e) o
 
   -- 17h: 55h releases, AAh means fallback
   release-did : spanOf add (length xs) ≡ Release → allowed Release (takenBy a) add xs ≡ true → Leaves a call 0 (written Release (takenBy a) add xs)
@@ -57,7 +58,7 @@ module _ (a : Agent) (good : Good a) (call : Call) (r : Request) (done : eventOf
       (λ w. or-cases (eqb (getD xs 0 0) released) (eqb (getD xs 0 0) withheld) h
       (λ o. record {
         view = releases (takes (viewOf a));
-        did = releasedBy r done due (outputs-of Release e) (release-of Release e ∙ o);
+        did = releasedBy r done due (outputs-of Release e) (release-of e o);
         shows = release-view (takenBy a) add xs (good .registers) (omega arith) (omega arith) (eqb-true (getD xs 0 0) released o);
       })
       (λ o. absurd (let z : _≡_ {A = ℕ} 0 1 = cc in omega arith)))

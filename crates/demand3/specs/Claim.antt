@@ -8,14 +8,12 @@ use Rattle.base.specs.Bytes.{Bytes}
 use Rattle.wire.specs.Laying.{bodyOf}
 use Rattle.frames.specs.Kinds.{appOf}
 use Rattle.frames.specs.declared.kinds.Frame.the-variants.{SafeWrite}
-use Rattle.rules.specs.Answers.{accepted, unsound}
 use Rattle.rules.specs.Calls.{Call, tick, input, frame}
 use Rattle.rules.specs.Good.{BytesCall}
 use Rattle.rules.specs.PowerUp.{powerUp}
-use Rattle.rules.specs.Registers.{outputsAt, image}
-use Rattle.rules.specs.State.{inRun, inFallback}
 use Rattle.demand3.specs.Events.{aSync}
 use Rattle.demand3.specs.History.{History, powerOn, _▸_, Entry, Seen, history}
+use Rattle.demand3.specs.Numbers.{inRun, inFallback, outputsAt, image, accepted, unsound}
 use Rattle.demand3.specs.Words.{event, lastSync, ownSid, taken, numberDue, AllDiffer, LeavesRun, EntersRun, TickAtSyncLimit, TickAtCommandLimit, Released}
 
 -- in fallback, outputs zero

@@ -1,10 +1,10 @@
 -- What a call and its answer amount to. Written from the calls and the answers alone: a body is read by the reader of
 -- frames, and the answer says whether it was accepted. Assumes nothing.
-use mathlib.Core.Bool.{Bool, true, false, _&&_}
+use mathlib.Core.Bool.{Bool, false}
 use mathlib.Core.List.{List}
 use Prim.Native.Nat.{ℕ}
 use lib.Dec.{eqb}
-use lib.ListN.{length, getD, take}
+use lib.ListN.{take}
 use Rattle.base.specs.Choice.{choose}
 use Rattle.frames.specs.Kinds.{dataIn}
 use Rattle.frames.specs.Reading.{readFrame}
@@ -13,12 +13,9 @@ use Rattle.frames.specs.declared.kinds.Frame.the-variants.{Sync, SafeRead, Safe
 use Rattle.frames.specs.declared.reading.Reading.{Reading}
 use Rattle.frames.specs.declared.reading.Reading.the-variants as reading
 use Rattle.frames.specs.declared.reading.Received.{Received}
-use Rattle.rules.specs.Answers.{isAccepted, outsideRules}
 use Rattle.rules.specs.Calls.{Call, tick, input, frame}
 use Rattle.rules.specs.Requests.{Ask, reads, writes}
-use Rattle.rules.specs.Writes.{spanOf}
-use Rattle.rules.specs.declared.Span.{Span}
-use Rattle.rules.specs.declared.Span.the-variants.{Release, CycleTime, Limits, Counters, Config, Outputs, Outside}
+use Rattle.demand3.specs.Numbers.{accepted, outsideRules, writesRelease, writesWithinOutputs}
 
 -- a safe request: DEST, SRC, CYC, SEQ and what it asks for
 pub record Request : Type 0 where
@@ -42,16 +39,16 @@ pub data Event : Type 0 where
   nothing : Event
 
 abbrev pub ofRequest : Request → ℕ → Event
-ofRequest r n = choose (isAccepted n) (aRequest r) (choose (eqb n outsideRules) (aRefusedWrite r) nothing)
+ofRequest r n = choose (eqb n accepted) (aRequest r) (choose (eqb n outsideRules) (aRefusedWrite r) nothing)
 
 -- a frame with its data, and the answer
 abbrev pub ofFrame : Frame → List ℕ → ℕ → Event
-ofFrame (Sync src cyc) xs n = choose (isAccepted n) (aSync src cyc) nothing
+ofFrame (Sync src cyc) xs n = choose (eqb n accepted) (aSync src cyc) nothing
 ofFrame (SafeRead dest src cyc seq datl add) xs n =
     ofRequest (record { dest = dest; src = src; cyc = cyc; seq = seq; ask = reads datl add }) n
 ofFrame (SafeWrite dest src cyc seq datl add) xs n =
     ofRequest (record { dest = dest; src = src; cyc = cyc; seq = seq; ask = writes add xs }) n
-ofFrame (SidAssignment src sec mac sid) xs n = choose (isAccepted n) (anAssignment sid) nothing
+ofFrame (SidAssignment src sec mac sid) xs n = choose (eqb n accepted) (anAssignment sid) nothing
 ofFrame (PlainRead src datl add) xs n = nothing
 ofFrame (PlainWrite src datl add) xs n = nothing
 ofFrame (SafeResponse dest src cyc seq kind datl add stat) xs n = nothing
@@ -82,30 +79,11 @@ eventOf tick n = aTick
 eventOf (input xs) n = nothing
 eventOf (frame port body room) n = ofReceived (readFrame body) n
 
--- a release order: a write of 55h to 17h
-abbrev pub isRelease : Span → List ℕ → Bool
-isRelease Release xs = eqb (getD xs 0 0) 0x55
-isRelease CycleTime xs = false
-isRelease Limits xs = false
-isRelease Counters xs = false
-isRelease Config xs = false
-isRelease Outputs xs = false
-isRelease Outside xs = false
-
+-- what a request asks for, as a release order and as an output write
 abbrev pub ordersRelease : Ask → Bool
 ordersRelease (reads datl add) = false
-ordersRelease (writes add xs) = isRelease (spanOf add (length xs)) xs
-
--- an output write: into 80h to BFh
-abbrev pub isOutputs : Span → Bool
-isOutputs Release = false
-isOutputs CycleTime = false
-isOutputs Limits = false
-isOutputs Counters = false
-isOutputs Config = false
-isOutputs Outputs = true
-isOutputs Outside = false
+ordersRelease (writes add xs) = writesRelease add xs
 
 abbrev pub writesOutputs : Ask → Bool
 writesOutputs (reads datl add) = false
-writesOutputs (writes add xs) = isOutputs (spanOf add (length xs))
+writesOutputs (writes add xs) = writesWithinOutputs add xs

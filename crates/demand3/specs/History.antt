@@ -2,11 +2,11 @@
 -- after: mode, outputs, t, n, m. The counters of the agent are not among it. Assumes nothing.
 use mathlib.Core.List.{List, [], _∷_}
 use Prim.Native.Nat.{ℕ, _+_}
+use lib.ListN.{getD}
 use Rattle.rules.specs.Calls.{Call, act}
-use Rattle.rules.specs.Registers.{outputsAt}
 use Rattle.rules.specs.Replies.{Outcome}
-use Rattle.rules.specs.State.{reg, tOf, nOf, mOf}
 use Rattle.rules.specs.declared.Agent.{Agent}
+use Rattle.demand3.specs.Numbers.{tcyc, cnfRep, cnfCyc, outputsAt}
 
 infixl 20 _▸_
 -- outputs are counted from 0 to 63
@@ -28,11 +28,25 @@ pub data History : Type 0 where
   powerOn : History
   _▸_ : History → Entry → History
 
+-- by the mode and the registers
+abbrev pub seenOf : ℕ → List ℕ → Seen
+seenOf mode regs = record {
+  mode = mode;
+  out = λ i. getD regs (outputsAt + i) 0;
+  t = getD regs tcyc 0;
+  n = getD regs cnfCyc 0;
+  m = getD regs cnfRep 0;
+}
+
 abbrev pub seen : Agent → Seen
-seen a = record { mode = a .mode; out = λ i. reg a (outputsAt + i); t = tOf a; n = nOf a; m = mOf a }
+seen a = seenOf (a .mode) (a .regs)
+
+-- a call on the agent a, its answer, and the agent b that it left
+abbrev pub entryOf : Agent → Call → ℕ → Agent → Entry
+entryOf a call answer b = record { call = call; answer = answer; before = seen a; after = seen b }
 
 abbrev pub entry : Agent → Call → Outcome → Entry
-entry a call o = record { call = call; answer = o .answer; before = seen a; after = seen (o .agent) }
+entry a call o = entryOf a call (o .answer) (o .agent)
 
 -- each call on the agent as the one before left it
 abbrev pub history : Agent → History → List Call → History

@@ -1,6 +1,7 @@
+pub mod Numbers
 pub mod Events
 pub mod History
 pub mod Words
 pub mod Claim
 pub mod Sharper
-pub mod Runs
+pub mod Reached

@@ -10,10 +10,10 @@ use Rattle.frames.specs.declared.kinds.Frame.the-variants.{SafeRead, SafeWrite}
 use Rattle.frames.specs.declared.reading.Reading.the-variants.{Taken}
 use Rattle.rules.specs.Calls.{Call, frame}
 use Rattle.rules.specs.PowerUp.{powerUp}
-use Rattle.rules.specs.Registers.{image}
 use Rattle.demand3.specs.Claim.{Everywhere, BytesCalls}
 use Rattle.demand3.specs.Events.{Request, aSync, aRequest, aRefusedWrite}
 use Rattle.demand3.specs.History.{History, powerOn, _▸_, Entry, history}
+use Rattle.demand3.specs.Numbers.{image}
 use Rattle.demand3.specs.Words.{event, lastSync, ownSid, taken, numberDue}
 
 -- ---- every request that is taken is fresh

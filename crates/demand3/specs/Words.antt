@@ -6,10 +6,9 @@ use mathlib.Core.Path.{_≡_}
 use Prim.Native.Nat.{ℕ, _+_, _*_, _%_, _≤_}
 use lib.Dec.{eqb}
 use Rattle.base.specs.Choice.{choose}
-use Rattle.rules.specs.Requests.{firstSeq}
-use Rattle.rules.specs.State.{inRun, inFallback}
 use Rattle.demand3.specs.Events.{Event, aTick, aSync, aRequest, aRefusedWrite, anAssignment, nothing, eventOf, ordersRelease, writesOutputs, Request}
 use Rattle.demand3.specs.History.{History, powerOn, _▸_, Entry, Seen}
+use Rattle.demand3.specs.Numbers.{inRun, inFallback, firstSeq}
 
 abbrev pub event : Entry → Event
 event e = eventOf (e .call) (e .answer)

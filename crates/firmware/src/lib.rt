@@ -1,15 +1,18 @@
 // The firmware's interface: the firmware owns the agent, and each call alters it in place. Thin functions over the calls
-// by value; include/saturn.h is the header for C.
+// by value; include/saturn.h is the header for C. Demand 3 is a clause of each contract: power-up begins a history, and
+// each call continues every history that ended in the agent it is handed.
 ghost use mathlib.Core.Path.{_≡_};
 ghost use lib.ListN.{length};
-ghost use Rattle.rules.specs.Calls.{tickCall, inputCall, frameCall, leftIn};
+ghost use Rattle.rules.specs.Calls.{tick, input, frame, tickCall, inputCall, frameCall, Answers, AnswersFrame};
 ghost use Rattle.rules.specs.PowerUp.{powerUp};
+ghost use Rattle.demand3.specs.History.{powerOn};
+ghost use Rattle.demand3.specs.Reached.{Reached, Continues};
 use rules::Agent;
 
 // Power-up with MAC, IID and VER.
 #[no_mangle]
 pub extern "C" fn saturn_power_up(agent: &mut Agent, mac: u64, iid: u64, ver: u16)
-    ensures { λ _. ⌜ now (agent .exit) ≡ powerUp mac iid ver ⌝ }
+    ensures { λ _. ⌜ (now (agent .exit) ≡ powerUp mac iid ver) × Reached powerOn (now (agent .exit)) ⌝ }
 {
     *agent = agent::power_up::power_up(mac, iid, ver);
 }
@@ -17,7 +20,8 @@ pub extern "C" fn saturn_power_up(agent: &mut Agent, mac: u64, iid: u64, ver: u1
 // One millisecond.
 #[no_mangle]
 pub extern "C" fn saturn_tick(agent: &mut Agent) -> u8
-    ensures { λ r. ⌜ (r ≡ tickCall (now (agent .entry)) .answer) × (now (agent .exit) ≡ tickCall (now (agent .entry)) .agent) ⌝ }
+    ensures { λ r. ⌜ Answers (tickCall (now (agent .entry))) r (now (agent .exit))
+        × Continues (now (agent .entry)) tick r (now (agent .exit)) ⌝ }
 {
     let told = agent::calls::tick(*agent);
     *agent = told.agent;
@@ -27,7 +31,8 @@ pub extern "C" fn saturn_tick(agent: &mut Agent) -> u8
 // The 64 inputs.
 #[no_mangle]
 pub extern "C" fn saturn_inputs(agent: &mut Agent, inputs: &[u8]) -> u8
-    ensures { λ r. ⌜ (r ≡ inputCall (now (agent .entry)) (now (inputs .entry)) .answer) × (now (agent .exit) ≡ inputCall (now (agent .entry)) (now (inputs .entry)) .agent) ⌝ }
+    ensures { λ r. ⌜ Answers (inputCall (now (agent .entry)) (now (inputs .entry))) r (now (agent .exit))
+        × Continues (now (agent .entry)) (input (now (inputs .entry))) r (now (agent .exit)) ⌝ }
 {
     let told = agent::calls::inputs(*agent, inputs);
     *agent = told.agent;
@@ -43,10 +48,8 @@ pub extern "C" fn saturn_frame(
     reply: &mut [u8],
     sent: &mut u16,
 ) -> u8
-    ensures { λ r. ⌜ (r ≡ frameCall (now (agent .entry)) port (now (body .entry)) (length (now (reply .entry))) .answer)
-        × (now (agent .exit) ≡ frameCall (now (agent .entry)) port (now (body .entry)) (length (now (reply .entry))) .agent)
-        × (now (sent .exit) ≡ length (frameCall (now (agent .entry)) port (now (body .entry)) (length (now (reply .entry))) .line))
-        × (now (reply .exit) ≡ leftIn (frameCall (now (agent .entry)) port (now (body .entry)) (length (now (reply .entry)))) (now (reply .entry))) ⌝ }
+    ensures { λ r. ⌜ AnswersFrame (frameCall (now (agent .entry)) port (now (body .entry)) (length (now (reply .entry)))) r (now (agent .exit)) (now (sent .exit)) (now (reply .entry)) (now (reply .exit))
+        × Continues (now (agent .entry)) (frame port (now (body .entry)) (length (now (reply .entry)))) r (now (agent .exit)) ⌝ }
 {
     let handled = agent::calls::frame(*agent, port, body, reply);
     *agent = handled.agent;

@@ -1,5 +1,6 @@
 -- `firmware::saturn_frame` meets its contract: a walk of its MIR, by hand. The borrow of the agent is opened, the agent is copied out and passed to `frame` with the port, the body and the reply; the agent of the result is stored and that borrow closed at it; the borrow of `sent` is opened, the length is stored, and it is closed.
 -- The body is a `&`: what it owns is had twice, and one stays for the exit. The reply goes to `frame` at its own lifetime, share and name, for good (`gave-slice`): what `frame` says of the last list is what the contract says at exit.
+-- That the body's elements are bytes, which a history asks for, is learnt from the borrow before the call (`SliceBytes`).
 -- All that is known of `frame` is that it meets its contract. No field of the agent is looked at.
 -- Assumes nothing.
 use mathlib.Core.Path.{_≡_, refl}
@@ -19,7 +20,7 @@ use ghost.Atoms.{Atoms}
 use contract.Lifetimes.{Lfts}
 use contract.Monad.{Fun, fact}
 use contract.Running.{givenOf, tables, tablesOf}
-use types.Kit.{Given, Item, ‵, raw, _⊛_, ⋆, some, later, _$_, _∵_, !, qed, by, move, keep, drop, use1, use3, split, join, pick, fsplit, fsplit3, fjoin, fjoin3, feqI, feqL, suffices, frame, await, rewrite, done}
+use types.Kit.{Given, Item, ‵, raw, _⊛_, ⋆, some, later, _$_, _∵_, !, qed, by, move, keep, drop, use1, use3, split, join, pick, fsplit, fsplit3, fjoin, fjoin3, feqI, feqL, suffices, frame, await, rewrite, done, given, use2, learn}
 use types.Run.{look, look-raw, init, store-raw, forget, stop, hop, fld, from, load, addr, and-then, no-more, of-opd, land, assigns, returns, enter, alloc1, alloc0, params1, pass1, pass0, free1, free0}
 use types.Part.{agg, whole, sub, look-in}
 use types.SemTy.{Body}
@@ -45,7 +46,9 @@ use denote.Triple.Walked.{says, Stays, stay-ref, stay-none, stay-none-slice, gav
 use denote.Triple.Clauses.{ensured, lasts}
 use Rattle.rules.specs.declared.Agent.{Agent}
 use Rattle.agent.specs.declared.calls.Handled.{Handled}
-use Rattle.rules.specs.Calls.{frameCall, leftIn}
+use Rattle.rules.specs.Calls.{Call, frame as Calls·frame, frameCall, AnswersFrame}
+use Rattle.rules.specs.Good.{BytesCall}
+use Rattle.demand3.proofs.ReachedLaws.{continues}
 use Rattle.rules.specs.Replies.{Outcome}
 use Rattle.rules.proofs.Agent as T
 use Rattle.rules.proofs.Agent.Laws as T′
@@ -56,6 +59,7 @@ use Rattle.agent.proofs.calls.frame.Symbol as by-value-def
 use Rattle.agent.proofs.calls.frame.Symbol.{name as #agent·calls·frame}
 use Rattle.agent.proofs.calls.frame.Met as by-value-thm
 use Rattle.firmware.proofs.Fields.{vals, val}
+use Rattle.firmware.proofs.SliceBytes.{learns-bytes}
 use Rattle.firmware.proofs.saturn_frame.Key.{name as #firmware·saturn-frame}
 use Rattle.firmware.proofs.saturn_frame as own
 use Rattle.firmware.proofs.saturn_frame.Statement as stated
@@ -116,19 +120,22 @@ module _ {M : Type 1} (𝓤 : URA M) (H : Heap 𝓤) (A : Atoms 𝓤) (W : Given
   abbrev call : Outcome
   call = frameCall h n (s .now) (length ys)
 
+  abbrev called : Call
+  called = Calls·frame n (s .now) (length ys)
+
   -- what `frame` says of its result and of the reply's last list
   abbrev Said : Handled → List ℕ → Type 0
-  Said r zs = (r .answer ≡ call .answer) × (r .agent ≡ call .agent) × (r .sent ≡ length (call .line)) × (zs ≡ leftIn call ys)
+  Said r zs = AnswersFrame call (r .answer) (r .agent) (r .sent) ys zs
 
   -- what is had at the end, but for the room of the locals
   abbrev had : Handled → List ℕ → List (Item 𝓤)
   had r zs = ‵ (fobs γ₃ (u16 .coded .code (r .sent))) ∷ ‵ (fbor κ₃ (Body (mem u16) b₃ o₃ γ₃)) ∷ ‵ (flft κ₃ q₃) ∷ ‵ (fobs γ (T.the-row .coded .code (r .agent))) ∷ ‵ (fbor κ (Body (mem T.the-row) b o γ)) ∷ ‵ (flft κ q) ∷ Lent ∷ ‵ (finally u8 γ₂ zs) ∷ ‵ Bytes ∷ []
 
-  exits : (r : Handled) (zs : List ℕ) → Said r zs → length zs ≡ length ys → r .answer < 2 ^ 8 → ent 𝓤 (⋆ 𝓤 H A (had r zs)) (Post (vint w8 (r .answer)))
-  exits r zs e l fits =
+  exits : (r : Handled) (zs : List ℕ) → BytesCall called → Said r zs → length zs ≡ length ys → r .answer < 2 ^ 8 → ent 𝓤 (⋆ 𝓤 H A (had r zs)) (Post (vint w8 (r .answer)))
+  exits r zs bytes e l fits =
       qed W (had r zs) ∵
       suffices ! _ (ends-at 𝓤 H A own.ended stayed (own.clauses 𝓤 H A at-mem run) W ((κs, (q, (q₁, (q₂, (q₃, tt)))), tt, x, at), tt) (vint w8 (r .answer)) (r .answer) (r .agent, (tt, (tt, (zs, (r .sent, tt))))) (tt, (tt, (tt, (l, (tt, tt)))))) $
-      says ! e $
+      says ! (e, continues h called bytes (r .answer) (r .agent) (e .0, e .1)) $
       -- the tokens, in the order of the lifetimes
       move ! (6 ∷ []) $ split ! $ move ! (1 ∷ []) $ split ! $ move ! (5 ∷ 1 ∷ []) $ join ! $ move ! (1 ∷ 0 ∷ []) $ join ! $ move ! (1 ∷ 0 ∷ []) $ join ! $ move ! (5 ∷ 0 ∷ []) $ join ! $ frame ! $
       -- what is had of the parameters, from the last to the first: sent, the reply, the body, the port, the agent
@@ -161,7 +168,8 @@ module _ {M : Type 1} (𝓤 : URA M) (H : Heap 𝓤) (A : Atoms 𝓤) (W : Given
         pass1 ! (init ! 16 refl (tt, tt)) $ pass1 ! (init ! 14 refl (tt, record { fits = n-fits })) $ pass1 ! (init ! 12 refl (shr-slice-lawful 𝓤 H A W (named 1) κ₁ u8 .typed s (sv ∷ []) p .0)) $
         pass1 ! (init ! 10 refl (tt, (tt, (record { fits = room .0 }, tt)))) $ pass1 ! (init ! 8 refl (tt, tt)) $ pass0 ! $
         -- [room for _9 0; …; room for _8 2; …; room for _7 4; …; room for _6 6; …; _5 8; …; _4 10; …; _3 12; …; _2 14; …; _1 16; …; room for _0 18; …; obs 20; the agent's borrow; the agent's token; sent's obs; sent's borrow; sent's token; the reply's 26; the body's; the lent tokens; the body's; true]
-        move ! (20 ∷ 21 ∷ 22 ∷ []) $ opens ! tt T.the-row {h = h} b o (λ vs. spelt ! T.the-row (Is T.the-row) (shows 𝓤 H A T.the-row) vals (LL.tells T.the-type T′.the-laws) fullShare h vs b o $
+        move ! (27 ∷ 28 ∷ []) $ use2 W (later (given (BytesCall called) (‵ Bytes ⊛ Lent))) (learns-bytes 𝓤 H A W (named 1) κ₁ q₁ s (‵ (flft κ₂ q₂) ⊛ ‵ ftrue)) $ await ! tt $ learn ! (λ bytes. split ! $
+        move ! (22 ∷ 23 ∷ 24 ∷ 2 ∷ 3 ∷ 4 ∷ 5 ∷ 6 ∷ 7 ∷ 8 ∷ 9 ∷ 10 ∷ 11 ∷ 12 ∷ 13 ∷ 14 ∷ 15 ∷ 16 ∷ 17 ∷ 18 ∷ 19 ∷ 20 ∷ 21 ∷ 25 ∷ 26 ∷ 27 ∷ 28 ∷ 0 ∷ 1 ∷ []) $ opens ! tt T.the-row {h = h} b o (λ vs. spelt ! T.the-row (Is T.the-row) (shows 𝓤 H A T.the-row) vals (LL.tells T.the-type T′.the-laws) fullShare h vs b o $
         move ! (1 ∷ []) $ peeks ! T.the-row (Is T.the-row) (shows 𝓤 H A T.the-row) h (val h ∷ []) (λ is.
         -- [what the agent owns; the agent's cell; the open borrow; obs; auth; room for _9 5; …; _8 7; …; _7 9; …; _6 11; …; _5 13; …; _4 15; …; _3 17; …; _2 19; …; _1 21; …; room for _0 23; …; sent's obs 25; sent's borrow; sent's token; the reply's 28; the body's 29; the lent tokens 30; the body's; true]
         assigns ! (of-opd ! (load ! (from ! (hop ! (look ! 21 refl) (stop !))) (look-raw ! 1 refl))) (from ! (stop !)) (init ! 9 refl (LL.lawful T.the-type T′.the-laws 𝓤 H A W .typed h _ is .0)) $
@@ -190,7 +198,7 @@ module _ {M : Type 1} (𝓤 : URA M) (H : Heap 𝓤) (A : Atoms 𝓤) (W : Given
         returns ! (look ! 26 refl) $ forget ! 8 refl $ forget ! 10 refl $ forget ! 12 refl $ forget ! 14 refl $ forget ! 16 refl $ forget ! 18 refl $ forget ! 20 refl $ forget ! 22 refl $ forget ! 24 refl $ forget ! 26 refl $
         move ! (26 ∷ 27 ∷ []) $ free1 ! $ move ! (24 ∷ 25 ∷ []) $ free1 ! $ move ! (22 ∷ 23 ∷ []) $ free1 ! $ move ! (20 ∷ 21 ∷ []) $ free1 ! $ move ! (18 ∷ 19 ∷ []) $ free1 ! $
         move ! (16 ∷ 17 ∷ []) $ free1 ! $ move ! (14 ∷ 15 ∷ []) $ free1 ! $ move ! (12 ∷ 13 ∷ []) $ free1 ! $ move ! (10 ∷ 11 ∷ []) $ free1 ! $ move ! (8 ∷ 9 ∷ []) $ free1 ! $ free0 ! $
-        keep ! (0 ∷ 1 ∷ 2 ∷ 3 ∷ 4 ∷ 5 ∷ 6 ∷ 7 ∷ 8 ∷ []) $ by ! (exits r (zs .1 .1 .1 .0) e l (answer-fits r _ is′)))))))))))))))))))))
+        keep ! (0 ∷ 1 ∷ 2 ∷ 3 ∷ 4 ∷ 5 ∷ 6 ∷ 7 ∷ 8 ∷ []) $ by ! (exits r (zs .1 .1 .1 .0) bytes e l (answer-fits r _ is′))))))))))))))))))))))
 
 module _ {M : Type 1} (𝓤 : URA M) (H : Heap 𝓤) (A : Atoms 𝓤) (W : Given 𝓤 H A) (at-mem : Memory → SProp 𝓤) (run : Routine → Fun 𝓤) where
   walks : (C : Calls 𝓤 H) (Λ : Loops 𝓤 H) → FmC 𝓤 H (W .laws) C → Triple 𝓤 (C #agent·calls·frame) (Callee 𝓤 H A at-mem run) → Walks 𝓤 H A own.ended stayed (WpFn 𝓤 H C Λ code.function) (own.clauses 𝓤 H A at-mem run)

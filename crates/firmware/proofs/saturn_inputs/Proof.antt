@@ -1,5 +1,6 @@
 -- `firmware::saturn_inputs` meets its contract: a walk of its MIR, by hand. The borrow of the agent is opened, the agent is copied out and passed to `inputs` with the slice, the agent of the result is stored, and the borrow is closed at it.
 -- The slice is a `&`: what it owns is had twice, one goes to `inputs` at its own lifetime and share, the other stays for the exit.
+-- That its elements are bytes, which a history asks for, is learnt from the borrow before the call (`SliceBytes`).
 -- All that is known of `inputs` is that it meets its contract. No field of the agent is looked at.
 -- Assumes nothing.
 use mathlib.Core.Path.{_≡_, refl}
@@ -19,7 +20,7 @@ use ghost.Atoms.{Atoms, sem}
 use contract.Lifetimes.{Lfts}
 use contract.Monad.{Fun, fact}
 use contract.Running.{givenOf, tables, tablesOf}
-use types.Kit.{Given, ‵, raw, _⊛_, ⋆, some, later, _$_, _∵_, !, qed, by, move, keep, drop, use1, use3, split, join, pick, fsplit, fsplit3, fjoin, fjoin3, feqI, suffices, frame, await, rewrite, done}
+use types.Kit.{Given, ‵, raw, _⊛_, ⋆, some, later, given, _$_, _∵_, !, qed, by, move, keep, drop, use1, use2, use3, split, join, pick, learn, fsplit, fsplit3, fjoin, fjoin3, feqI, suffices, frame, await, rewrite, done}
 use types.Run.{look, look-raw, init, store-raw, forget, stop, hop, fld, from, load, and-then, no-more, of-opd, land, assigns, returns, enter, alloc1, alloc0, params1, pass1, pass0, free1, free0}
 use types.Part.{whole, sub, look-in}
 use types.SemTy.{Body}
@@ -45,7 +46,9 @@ use denote.Triple.Walked.{says, Stays, stay-ref, stay-none-slice, walkOf, AllGo,
 use denote.Triple.Clauses.{ensured, lasts}
 use Rattle.rules.specs.declared.Agent.{Agent}
 use Rattle.agent.specs.declared.calls.Told.{Told}
-use Rattle.rules.specs.Calls.{inputCall}
+use Rattle.rules.specs.Calls.{input, inputCall, Answers}
+use Rattle.rules.specs.Good.{BytesCall}
+use Rattle.demand3.proofs.ReachedLaws.{continues}
 use Rattle.rules.proofs.Agent as T
 use Rattle.rules.proofs.Agent.Laws as T′
 use Rattle.agent.proofs.calls.Told as D
@@ -55,6 +58,7 @@ use Rattle.agent.proofs.calls.inputs.Symbol as inputs-def
 use Rattle.agent.proofs.calls.inputs.Symbol.{name as #agent·calls·inputs}
 use Rattle.agent.proofs.calls.inputs.Met as inputs-thm
 use Rattle.firmware.proofs.Fields.{vals, val, answer-fits, agent-is}
+use Rattle.firmware.proofs.SliceBytes.{learns-bytes}
 use Rattle.firmware.proofs.saturn_inputs.Key.{name as #firmware·saturn-inputs}
 use Rattle.firmware.proofs.saturn_inputs as own
 use Rattle.firmware.proofs.saturn_inputs.Statement as stated
@@ -65,7 +69,7 @@ stayed = (stay-ref (0 ∷ []) tt (plain (λ _. T.the-row)), (stay-none-slice (1 
 
 -- what `inputs` says of its result
 abbrev Said : Agent → List ℕ → Told → Type 0
-Said h xs r = (r .answer ≡ inputCall h xs .answer) × (r .agent ≡ inputCall h xs .agent)
+Said h xs r = Answers (inputCall h xs) (r .answer) (r .agent)
 
 module _ {M : Type 1} (𝓤 : URA M) (H : Heap 𝓤) (A : Atoms 𝓤) (at-mem : Memory → SProp 𝓤) (run : Routine → Fun 𝓤) where
   abbrev Callee : Contract 𝓤
@@ -94,12 +98,12 @@ module _ {M : Type 1} (𝓤 : URA M) (H : Heap 𝓤) (A : Atoms 𝓤) (W : Given
   abbrev Post : Val → SProp 𝓤
   Post = walkOf 𝓤 H A own.ended stayed (own.clauses 𝓤 H A at-mem run) .post ((κs, (q, (q′, tt)), tt, x, at), tt)
 
-  exits : (r : Told) → Said h (s .now) r → r .answer < 2 ^ 8
+  exits : (r : Told) → BytesCall (input (s .now)) → Said h (s .now) r → r .answer < 2 ^ 8
       → ent 𝓤 (⋆ 𝓤 H A (‵ (fobs γ (T.the-row .coded .code (r .agent))) ∷ ‵ (fbor κ (Body (mem T.the-row) b o γ)) ∷ ‵ (flft κ q) ∷ (‵ (flft κ′ q′) ⊛ ‵ ftrue) ∷ ‵ Bytes ∷ [])) (Post (vint w8 (r .answer)))
-  exits r e fits =
+  exits r bytes e fits =
       qed W (‵ (fobs γ (T.the-row .coded .code (r .agent))) ∷ ‵ (fbor κ (Body (mem T.the-row) b o γ)) ∷ ‵ (flft κ q) ∷ (‵ (flft κ′ q′) ⊛ ‵ ftrue) ∷ ‵ Bytes ∷ []) ∵
       suffices ! _ (ends-at 𝓤 H A own.ended stayed (own.clauses 𝓤 H A at-mem run) W ((κs, (q, (q′, tt)), tt, x, at), tt) (vint w8 (r .answer)) (r .answer) (r .agent, (tt, tt)) (tt, (tt, tt))) $
-      says ! e $
+      says ! (e, continues h (input (s .now)) bytes (r .answer) (r .agent) e) $
       -- the tokens; then what the parameters own, from the last to the first; then the result
       move ! (2 ∷ 3 ∷ []) $ join ! $ frame ! $ feqI ! (List Val) (vptr b o ∷ []) (vptr b o ∷ []) refl $ fjoin3 ! $
       nothing ! $ move ! (2 ∷ 0 ∷ []) $ fjoin ! $ move ! (1 ∷ 0 ∷ []) $ fjoin ! $
@@ -122,7 +126,9 @@ module _ {M : Type 1} (𝓤 : URA M) (H : Heap 𝓤) (A : Atoms 𝓤) (W : Given
         enter ! C Λ code.function (vptr b o ∷ sv ∷ []) _ $
         alloc1 ! (λ l₀. alloc1 ! (λ l₁. alloc1 ! (λ l₂. alloc1 ! (λ l₃. alloc1 ! (λ l₄. alloc0 ! $ params1 ! $
         pass1 ! (init ! 6 refl (tt, tt)) $ pass1 ! (init ! 4 refl (shr-slice-lawful 𝓤 H A W (named 1) κ′ u8 .typed s (sv ∷ []) p .0)) $ pass0 ! $
-        move ! (10 ∷ 11 ∷ 12 ∷ []) $ opens ! tt T.the-row {h = h} b o (λ vs. spelt ! T.the-row (Is T.the-row) (shows 𝓤 H A T.the-row) vals (LL.tells T.the-type T′.the-laws) fullShare h vs b o $
+        -- [room for _4 0; …; room for _3; …; _2; …; _1; …; room for _0; …; obs 10; the borrow; the token; the bytes' 13; the bytes'; true; the bytes' token 16]
+        move ! (13 ∷ 16 ∷ []) $ use2 W (later (given (BytesCall (input (s .now))) (‵ Bytes ⊛ (‵ (flft κ′ q′) ⊛ ‵ ftrue)))) (learns-bytes 𝓤 H A W (named 1) κ′ q′ s (‵ ftrue)) $ await ! tt $ learn ! (λ bytes. split ! $
+        move ! (12 ∷ 13 ∷ 14 ∷ 2 ∷ 3 ∷ 4 ∷ 5 ∷ 6 ∷ 7 ∷ 8 ∷ 9 ∷ 10 ∷ 11 ∷ 0 ∷ 15 ∷ 16 ∷ 1 ∷ []) $ opens ! tt T.the-row {h = h} b o (λ vs. spelt ! T.the-row (Is T.the-row) (shows 𝓤 H A T.the-row) vals (LL.tells T.the-type T′.the-laws) fullShare h vs b o $
         move ! (1 ∷ []) $ peeks ! T.the-row (Is T.the-row) (shows 𝓤 H A T.the-row) h (val h ∷ []) (λ is.
         -- [what the agent owns; the agent's cell; the open borrow; obs; auth; room for _4 5; …; room for _3; …; _2; …; _1 11; …; room for _0; …; the bytes' 15; the bytes'; true; the bytes' token 18]
         assigns ! (of-opd ! (load ! (from ! (hop ! (look ! 11 refl) (stop !))) (look-raw ! 1 refl))) (from ! (stop !)) (init ! 5 refl (LL.lawful T.the-type T′.the-laws 𝓤 H A W .typed h _ is .0)) $
@@ -141,7 +147,7 @@ module _ {M : Type 1} (𝓤 : URA M) (H : Heap 𝓤) (A : Atoms 𝓤) (W : Given
         -- [obs; the borrow; the token; the bytes' token; _4 4; …; _3; …; _2; …; _1; …; _0 12; …; the bytes'; true]
         returns ! (look ! 12 refl) $ forget ! 4 refl $ forget ! 6 refl $ forget ! 8 refl $ forget ! 10 refl $ forget ! 12 refl $
         move ! (12 ∷ 13 ∷ []) $ free1 ! $ move ! (10 ∷ 11 ∷ []) $ free1 ! $ move ! (8 ∷ 9 ∷ []) $ free1 ! $ move ! (6 ∷ 7 ∷ []) $ free1 ! $ move ! (4 ∷ 5 ∷ []) $ free1 ! $ free0 ! $
-        keep ! (0 ∷ 1 ∷ 2 ∷ 3 ∷ 4 ∷ []) $ by ! (exits r e (answer-fits r _ is′)))))))))))))
+        keep ! (0 ∷ 1 ∷ 2 ∷ 3 ∷ 4 ∷ []) $ by ! (exits r bytes e (answer-fits r _ is′))))))))))))))
 
 module _ {M : Type 1} (𝓤 : URA M) (H : Heap 𝓤) (A : Atoms 𝓤) (W : Given 𝓤 H A) (at-mem : Memory → SProp 𝓤) (run : Routine → Fun 𝓤) where
   walks : (C : Calls 𝓤 H) (Λ : Loops 𝓤 H) → FmC 𝓤 H (W .laws) C → Triple 𝓤 (C #agent·calls·inputs) (Callee 𝓤 H A at-mem run) → Walks 𝓤 H A own.ended stayed (WpFn 𝓤 H C Λ code.function) (own.clauses 𝓤 H A at-mem run)

@@ -40,7 +40,8 @@ use denote.Triple.Walked.{says, Stays, stay-ref, walkOf, AllGo, goes-ref, Walks,
 use denote.Triple.Clauses.{ensured, lasts}
 use Rattle.rules.specs.declared.Agent.{Agent}
 use Rattle.agent.specs.declared.calls.Told.{Told}
-use Rattle.rules.specs.Calls.{tickCall}
+use Rattle.rules.specs.Calls.{tick as Calls·tick, tickCall, Answers}
+use Rattle.demand3.proofs.ReachedLaws.{continues}
 use Rattle.rules.proofs.Agent as T
 use Rattle.rules.proofs.Agent.Laws as T′
 use Rattle.agent.proofs.calls.Told as D
@@ -60,7 +61,7 @@ stayed = (stay-ref (0 ∷ []) tt (plain (λ _. T.the-row)), tt)
 
 -- what `tick` says of its result
 abbrev Said : Agent → Told → Type 0
-Said h r = (r .answer ≡ tickCall h .answer) × (r .agent ≡ tickCall h .agent)
+Said h r = Answers (tickCall h) (r .answer) (r .agent)
 
 module _ {M : Type 1} (𝓤 : URA M) (H : Heap 𝓤) (A : Atoms 𝓤) (at-mem : Memory → SProp 𝓤) (run : Routine → Fun 𝓤) where
   abbrev Callee : Contract 𝓤
@@ -83,7 +84,7 @@ module _ {M : Type 1} (𝓤 : URA M) (H : Heap 𝓤) (A : Atoms 𝓤) (W : Given
   exits r e fits =
       qed W (‵ (fobs γ (T.the-row .coded .code (r .agent))) ∷ ‵ (fbor κ (Body (mem T.the-row) b o γ)) ∷ ‵ (flft κ q) ∷ []) ∵
       suffices ! _ (ends-at 𝓤 H A own.ended stayed (own.clauses 𝓤 H A at-mem run) W (((κ, tt), (q, tt), tt, x, at), tt) (vint w8 (r .answer)) (r .answer) (r .agent, tt) (tt, tt)) $
-      says ! e $ nothing ! $ move ! (3 ∷ 0 ∷ []) $ join ! $
+      says ! (e, continues h Calls·tick tt (r .answer) (r .agent) e) $ nothing ! $ move ! (3 ∷ 0 ∷ []) $ join ! $
       frame ! $ feqI ! (List Val) (vptr b o ∷ []) (vptr b o ∷ []) refl $ fjoin3 ! $ nothing ! $ move ! (1 ∷ 0 ∷ []) $ fjoin ! $
       owned ! u8 (Is u8) (uint-makes 𝓤 H A W w8) (r .answer) _ (refl, fits) $ move ! (1 ∷ 0 ∷ []) $ done !
 

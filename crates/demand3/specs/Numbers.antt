@@ -1,0 +1,56 @@
+-- The numbers of the claim, written out from document 01 and not taken from the rules that it is claimed of.
+-- proofs/SameNumbers has each beside the rules' own. Assumes nothing.
+use mathlib.Core.Bool.{Bool, _&&_}
+use mathlib.Core.List.{List}
+use Prim.Native.Nat.{ℕ, _+_, _-_, _%_}
+use lib.Dec.{eqb, leb}
+use lib.ListN.{length, getD}
+
+-- the two modes, as include/saturn.h has them
+abbrev pub inRun : ℕ
+inRun = 1
+
+abbrev pub inFallback : ℕ
+inFallback = 0
+
+-- TCYC, CNF_REP and CNF_CYC; the outputs are 80h to BFh
+abbrev pub tcyc : ℕ
+tcyc = 0x18
+
+abbrev pub cnfRep : ℕ
+cnfRep = 0x1A
+
+abbrev pub cnfCyc : ℕ
+cnfCyc = 0x1B
+
+abbrev pub outputsAt : ℕ
+outputsAt = 0x80
+
+abbrev pub lastOutput : ℕ
+lastOutput = 0xBF
+
+-- how many outputs there are
+abbrev pub image : ℕ
+image = 64
+
+-- the answers that the words name: accepted; a write outside the rules; an unsound state
+abbrev pub accepted : ℕ
+accepted = 0
+
+abbrev pub outsideRules : ℕ
+outsideRules = 16
+
+abbrev pub unsound : ℕ
+unsound = 19
+
+-- the first SEQ: the complement of CYC plus one, modulo 256
+abbrev pub firstSeq : ℕ → ℕ
+firstSeq cyc = (0xFF - cyc + 1) % 256
+
+-- a release order: a write of 55h to 17h
+abbrev pub writesRelease : ℕ → List ℕ → Bool
+writesRelease add xs = eqb add 0x17 && eqb (length xs) 1 && eqb (getD xs 0 0) 0x55
+
+-- an output write: at least one byte, wholly within 80h to BFh
+abbrev pub writesWithinOutputs : ℕ → List ℕ → Bool
+writesWithinOutputs add xs = leb 1 (length xs) && leb outputsAt add && leb (add + length xs) (lastOutput + 1)

@@ -1,0 +1,38 @@
+// The calls by value with demand 3 in their contracts: beside what `agent` says of a call, what the call adds to every
+// history from power-up that ended in the agent it is handed. One call of `agent` each, known by its contract alone.
+ghost use mathlib.Core.Path.{_≡_};
+ghost use lib.ListN.{length};
+ghost use Rattle.rules.specs.Calls.{tick as Calls·tick, input as Calls·input, frame as Calls·frame, tickCall, inputCall, frameCall, Answers, AnswersFrame};
+ghost use Rattle.rules.specs.PowerUp.{powerUp};
+ghost use Rattle.demand3.specs.History.{powerOn};
+ghost use Rattle.demand3.specs.Reached.{Reached, Continues};
+use agent::calls::Handled;
+use agent::calls::Told;
+use rules::Agent;
+
+// Power-up: the empty history ends in this agent.
+pub fn power_up(mac: u64, iid: u64, ver: u16) -> Agent
+    ensures { λ r. ⌜ (r ≡ powerUp mac iid ver) × Reached powerOn r ⌝ }
+{
+    agent::power_up::power_up(mac, iid, ver)
+}
+
+pub fn tick(a: Agent) -> Told
+    ensures { λ r. ⌜ Answers (tickCall a) (r .answer) (r .agent) × Continues a Calls·tick (r .answer) (r .agent) ⌝ }
+{
+    agent::calls::tick(a)
+}
+
+pub fn inputs(a: Agent, xs: &[u8]) -> Told
+    ensures { λ r. ⌜ Answers (inputCall a (now (xs .entry))) (r .answer) (r .agent)
+        × Continues a (Calls·input (now (xs .entry))) (r .answer) (r .agent) ⌝ }
+{
+    agent::calls::inputs(a, xs)
+}
+
+pub fn frame(a: Agent, port: u8, body: &[u8], reply: &mut [u8]) -> Handled
+    ensures { λ r. ⌜ AnswersFrame (frameCall a port (now (body .entry)) (length (now (reply .entry)))) (r .answer) (r .agent) (r .sent) (now (reply .entry)) (now (reply .exit))
+        × Continues a (Calls·frame port (now (body .entry)) (length (now (reply .entry)))) (r .answer) (r .agent) ⌝ }
+{
+    agent::calls::frame(a, port, body, reply)
+}

@@ -1,0 +1,3 @@
+pub mod CallBytesLaws
+pub mod LogLaws
+pub mod RunLaws

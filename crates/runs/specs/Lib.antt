@@ -1,0 +1,2 @@
+pub mod CallBytes
+pub mod Log

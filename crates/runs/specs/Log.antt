@@ -1,0 +1,42 @@
+-- What a run of the code writes down, the history that is read off it, and the promise of a run over a whole list of calls.
+-- Assumes nothing.
+use mathlib.Core.List.{List, [], _∷_}
+use mathlib.Core.Path.{_≡_}
+use Prim.Native.Nat.{ℕ, _+_, _*_, _≤_}
+use lib.ListN.{length, getD, take, drop}
+use Rattle.rules.specs.Calls.{Call}
+use Rattle.rules.specs.declared.Agent.{Agent}
+use Rattle.demand3.specs.Claim.{Holds}
+use Rattle.demand3.specs.History.{History, powerOn, _▸_, Seen, seenOf}
+use Rattle.demand3.specs.Reached.{Reached}
+use Rattle.demand3.specs.Sharper.{Sharper}
+use Rattle.runs.specs.CallBytes.{listBytes, AllMakable}
+
+-- a record at power-up and after each call: the answer (0 at power-up), the mode and the 256 registers
+abbrev pub recordOf : ℕ → Agent → List ℕ
+recordOf answer a = answer ∷ a .mode ∷ a .regs
+
+abbrev pub recordSize : ℕ
+recordSize = 258
+
+-- what may be seen of the agent, by the log from a record on
+abbrev pub seenIn : List ℕ → Seen
+seenIn l = seenOf (getD l 1 0) (take 256 (drop 2 l))
+
+-- the history of a list of calls as the log has it, from the record before the first call on
+abbrev pub logged : History → List Call → List ℕ → History
+logged h [] l = h
+logged h (x ∷ xs) l =
+    logged (h ▸ record { call = x; answer = getD l recordSize 0; before = seenIn l; after = seenIn (drop recordSize l) }) xs (drop recordSize l)
+
+-- a run of the code over the whole list from power-up: demand 3 and the sharper statements hold of the history that it wrote
+-- down, and the agent that it returned is the one at its end
+pub record Ran (calls : List Call) (a : Agent) (log : List ℕ) : Type 0 where
+  pub holds : Holds (logged powerOn calls log)
+  pub sharper : Sharper (logged powerOn calls log)
+  pub reached : Reached (logged powerOn calls log) a
+
+-- so for every list of calls that the bytes s stand for, with a reply buffer that has the room and a log of so many places
+abbrev pub RunsAny : (s : List ℕ) (room places : ℕ) (a : Agent) (log : List ℕ) → Type 0
+RunsAny s room places a log =
+    (calls : List Call) → s ≡ listBytes calls → AllMakable room calls → recordSize + recordSize * length calls ≤ places → Ran calls a log

@@ -1,0 +1,34 @@
+// The records of a log: the answer, the mode, the registers.
+ghost use mathlib.Core.Path.{_≡_};
+ghost use Prim.Native.Nat.{_+_, _≤_};
+ghost use lib.ListN.{length};
+ghost use lib.Seq.{sets};
+ghost use Rattle.runs.specs.Log.{recordOf, recordSize};
+use rules::Agent;
+
+// Bytes copied from a place on; the next place.
+fn copy_at(src: &[u8], dst: &mut [u8], from: usize) -> usize
+    requires { ⌜ from + length (now src) ≤ length (now dst) ⌝ }
+    ensures { λ r. ⌜ (r ≡ from + length (now (src .entry))) × (now (dst .exit) ≡ sets (now (dst .entry)) from (now (src .entry))) ⌝ }
+{
+    let mut i: usize = 0;
+    while i < src.len() {
+        dst[from + i] = src[i];
+        i += 1;
+    }
+    from + i
+}
+
+// The bytes of a record.
+pub const RECORD: usize = 258;
+
+// A record; the next place.
+pub fn put(answer: u8, a: Agent, log: &mut [u8], at: usize) -> usize
+    requires { ⌜ at + recordSize ≤ length (now log) ⌝ }
+    ensures { λ r. ⌜ (r ≡ at + recordSize) × (length (a .regs) ≡ 256) × (now (log .exit) ≡ sets (now (log .entry)) at (recordOf answer a)) ⌝ }
+{
+    let head = [answer, a.mode];
+    let next = copy_at(&head, log, at);
+    let regs = a.regs;
+    copy_at(&regs, log, next)
+}

@@ -1,0 +1,79 @@
+// The call that stands at a place of the bytes.
+ghost use Prim.Native.Nat.{_<_};
+ghost use lib.ListN.{length};
+ghost use Rattle.demand3.specs.Reached.{Continues};
+ghost use Rattle.runs.specs.CallBytes.{callOf, Stepped};
+use agent::calls::Told;
+use fields::byte_field;
+use fields::field;
+use rules::Agent;
+
+// The call of such parts: 0 a tick, 1 inputs, any other number a frame.
+fn call(a: Agent, kind: u8, port: u8, bytes: &[u8], reply: &mut [u8]) -> Told
+    ensures { λ r. ⌜ Continues a (callOf kind port (now (bytes .entry)) (length (now (reply .entry)))) (r .answer) (r .agent) ⌝ }
+{
+    if kind == 0 {
+        return promised::tick(a);
+    }
+    if kind == 1 {
+        return promised::inputs(a, bytes);
+    }
+    let handled = promised::frame(a, port, bytes, reply);
+    let agent = handled.agent;
+    Told {
+        answer: handled.answer,
+        agent,
+    }
+}
+
+// The answer, the agent, and the place of the next call.
+pub struct Made {
+    pub answer: u8,
+    pub agent: Agent,
+    pub next: usize,
+}
+
+// The bytes before a call's own: kind, port, room (8), length (8).
+const HEADING: usize = 18;
+
+// The call at a place, with the part of the reply buffer that it has room for. What is no call is passed over, to the end.
+pub fn step(a: Agent, s: &[u8], at: usize, reply: &mut [u8]) -> Made
+    requires { ⌜ at < length (now s) ⌝ }
+    ensures { λ r. ⌜ Stepped (now (s .entry)) at (length (now (reply .entry))) a (r .answer) (r .agent) (r .next) ⌝ }
+{
+    let left = s.len() - at;
+    let kind = byte_field(s, at);
+    let port = byte_field(s, at + 1);
+    let room = field(s, at + 2, 8) as usize;
+    let len = field(s, at + 10, 8) as usize;
+    if left < HEADING {
+        return Made {
+            answer: 0,
+            agent: a,
+            next: s.len(),
+        };
+    }
+    if left - HEADING < len {
+        return Made {
+            answer: 0,
+            agent: a,
+            next: s.len(),
+        };
+    }
+    if reply.len() < room {
+        return Made {
+            answer: 0,
+            agent: a,
+            next: s.len(),
+        };
+    }
+    let from = at + HEADING;
+    let to = from + len;
+    let told = call(a, kind, port, &s[from..to], &mut reply[..room]);
+    let agent = told.agent;
+    Made {
+        answer: told.answer,
+        agent,
+        next: to,
+    }
+}
