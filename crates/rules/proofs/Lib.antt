@@ -1,4 +1,8 @@
 pub mod BusTraps
+pub mod MarkSteps
+pub mod Cases
+pub mod ButFor
+pub mod Refused
 pub mod TakenFits
 pub mod ServedFrames
 pub mod Parts
