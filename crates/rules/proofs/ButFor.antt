@@ -50,7 +50,7 @@ module _ (a : Agent) where
       other-stored cptSeq (counter (reg a cptSeq)) (store statut (bitOr (reg a statut) 0x02) a) i h
       ∙ other-stored statut (bitOr (reg a statut) 0x02) a i e
 
-  fallback-others : (i : ℕ) → eqb i statut ≡ false → eqb i outRep ≡ false → within 0x80 0xBF i ≡ false → reg (enterFallback a) i ≡ reg a i
+  pub fallback-others : (i : ℕ) → eqb i statut ≡ false → eqb i outRep ≡ false → within 0x80 0xBF i ≡ false → reg (enterFallback a) i ≡ reg a i
   unfolding enterFallback
   fallback-others i e h k =
       let marked : Agent = store statut (bitOr (reg a statut) 0x80) a in

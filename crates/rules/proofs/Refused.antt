@@ -19,6 +19,7 @@ use Rattle.rules.specs.declared.Deed.{Deed}
 use Rattle.rules.specs.declared.Reply.the-variants.{Silent}
 use Rattle.rules.proofs.ButFor.{but-for}
 use Rattle.rules.proofs.Cases.{isHosts, KindCase, refuses, fell, outside, accepts, FrameCase, unread, taken, CallCase, unsoundly, hosts, ticks, stores, frames, call-case, by-sent, sent-silent}
+use Rattle.rules.proofs.Makes.{makes}
 use Rattle.rules.proofs.MarkSteps.{onlyMarks}
 
 sent-answer : (d : Deed) → sent d .answer ≡ d .answer
@@ -59,6 +60,7 @@ module _ {a : Agent} where
     buffer = λ bytes. refl;
     state = e;
     others = rw e (but-for a (rowOf (syncInRun a call) n));
+    named = λ l. rw e (makes a l (rowOf (syncInRun a call) n));
   }
 
   hosts-row : (b : Bool) (n : ℕ) → isHosts n ≡ true → a ≡ changed (rowOf b n) a

@@ -10,6 +10,7 @@ use lib.ListN.{length, take}
 use Rattle.base.specs.Choice.{within}
 use Rattle.wire.specs.Body.{readBody}
 use Rattle.frames.specs.Kinds.{dataIn}
+use Rattle.frames.specs.declared.kinds.Frame.{Frame}
 use Rattle.frames.specs.declared.kinds.Frame.the-variants.{SafeWrite}
 use Rattle.frames.specs.declared.reading.Read.the-variants.{Taken}
 use Rattle.rules.specs.Answers.{accepted, typ, cycle, outOfOrder}
@@ -25,16 +26,17 @@ use Rattle.rules.specs.declared.Agent.{Agent}
 abbrev pub isCounter : ℕ → Bool
 isCounter i = within 0x1E 0x24 i
 
--- a call brings a safe write of some bytes to a register
-pub data Brings : Call → ℕ → List ℕ → Type 0 where
-  brings : {port room dest src cyc seq datl add : ℕ} {body : List ℕ} → readOf body ≡ Taken (SafeWrite dest src cyc seq datl add)
-      → Brings (frame port body room) add (dataIn (SafeWrite dest src cyc seq datl add) (take (readBody body .len) (readBody body .bytes)))
+-- a call brings a frame with its data
+pub data Brings : Call → Frame → List ℕ → Type 0 where
+  brings : {port room : ℕ} {body : List ℕ} {f : Frame} → readOf body ≡ Taken f
+      → Brings (frame port body room) f (dataIn f (take (readBody body .len) (readBody body .bytes)))
 
 -- what register i, a counter, is after a call with its answer n
 pub data Counter (a : Agent) (call : Call) (n : ℕ) (b : Agent) (i : ℕ) : Type 0 where
   as-before : reg b i ≡ reg a i → Counter a call n b i
   -- an accepted write covers it
-  written : {add : ℕ} {xs : List ℕ} → Brings call add xs → n ≡ accepted → add ≤ i → i < add + length xs → Counter a call n b i
+  written : {dest src cyc seq datl add : ℕ} {xs : List ℕ} → Brings call (SafeWrite dest src cyc seq datl add) xs → n ≡ accepted
+      → add ≤ i → i < add + length xs → Counter a call n b i
   -- CPT_SEQ + 1 with 12 or 14, CPT_FOR + 1 with 7; both stop at 255
   out-of-sequence : i ≡ cptSeq → (n ≡ cycle) ⊎ (n ≡ outOfOrder) → reg b i ≡ counter (reg a i) → Counter a call n b i
   not-served : i ≡ cptFor → n ≡ typ → reg b i ≡ counter (reg a i) → Counter a call n b i

@@ -3,7 +3,8 @@
 use mathlib.Core.Bool.{Bool, true, false, _&&_, _||_}
 use mathlib.Core.List.{List, []}
 use mathlib.Core.Path.{_≡_}
-use Prim.Native.Nat.{ℕ, _+_}
+use Prim.Native.Nat.{ℕ, _+_, _<_}
+use lib.Bits.{bitOr}
 use lib.Dec.{eqb}
 use lib.ListN.{length, getD, take}
 use Rattle.base.specs.Choice.{choose, within}
@@ -15,12 +16,12 @@ use Rattle.frames.specs.declared.reading.Read.{Read}
 use Rattle.frames.specs.declared.reading.Read.the-variants.{Taken, Kind, Form, Check}
 use Rattle.rules.specs.Answers.{bodyLength, fcs, reserved, elsewhere, typ, form, crc, source, addressee, cycle, repeat, outOfOrder, tooMany, outsideRules, hostInput}
 use Rattle.rules.specs.Calls.{Call, tick, input, frame, leftIn}
-use Rattle.rules.specs.Fallback.{enterFallback}
+use Rattle.rules.specs.Fallback.{withheld, enterFallback}
 use Rattle.rules.specs.FrameCall.{agentRead}
-use Rattle.rules.specs.Marks.{lineMarked, formatMarked, sequenceMarked}
-use Rattle.rules.specs.Registers.{outRep, statut, cptSeq, cptFor}
+use Rattle.rules.specs.Marks.{counter, lineMarked, formatMarked, sequenceMarked}
+use Rattle.rules.specs.Registers.{outRep, statut, cptSeq, cptFor, outputsAt, image}
 use Rattle.rules.specs.Replies.{Outcome}
-use Rattle.rules.specs.State.{running, reg, withTaken}
+use Rattle.rules.specs.State.{inFallback, running, reg, withTaken}
 use Rattle.rules.specs.declared.Agent.{Agent}
 
 -- ---- the table
@@ -115,6 +116,33 @@ pub record ButFor (c : Change) (a b : Agent) : Type 0 where
   pub recorded : b .known ≡ a .known
   pub recorded-count : b .count ≡ a .count
 
+-- STATUT after a change: bit 5, bit 1, and bit 7 with fallback
+abbrev pub statusBy : Change → ℕ → ℕ
+statusBy nothing x = x
+statusBy lineMark x = bitOr x 0x20
+statusBy formatMark x = bitOr x 0x20
+statusBy sequenceMark x = bitOr x 0x02
+statusBy sequenceFall x = bitOr (bitOr x 0x02) 0x80
+statusBy oneTaken x = x
+
+-- the counters that go up by one and stop at 255
+abbrev pub raises : Change → ℕ → Bool
+raises nothing i = false
+raises lineMark i = false
+raises formatMark i = eqb i cptFor
+raises sequenceMark i = eqb i cptSeq
+raises sequenceFall i = eqb i cptSeq
+raises oneTaken i = false
+
+-- what the parts named are in b
+pub record Makes (c : Change) (a b : Agent) : Type 0 where
+  pub status : reg b statut ≡ statusBy c (reg a statut)
+  pub counters : (i : ℕ) → raises c i ≡ true → reg b i ≡ counter (reg a i)
+  pub fallback : namesMode c ≡ true → (b .mode ≡ inFallback) × (b .idle ≡ 0)
+  pub not-released : namesMode c ≡ true → reg b outRep ≡ withheld
+  pub outputs : namesMode c ≡ true → (i : ℕ) → i < image → reg b (outputsAt + i) ≡ 0
+  pub k : namesTaken c ≡ true → b .taken ≡ a .taken + 1
+
 -- ---- a refused call
 
 -- what the body of a call is read as, whether it is a sync (TYP 00h), and whether it is one in RUN
@@ -138,11 +166,12 @@ bringsSync (frame port body room) = readsSync (readOf body)
 abbrev pub syncInRun : Agent → Call → Bool
 syncInRun a call = bringsSync call && running a
 
--- its number is one of the table, nothing is sent, the reply buffer is untouched, the agent is the one of the number's row,
--- and that is the agent before but for the parts that the row names
+-- its number is one of the table, nothing is sent, the reply buffer is untouched, the agent is the one of the number's row;
+-- that is the agent before but for the parts that the row names, and these are as the row says where there are 256 registers
 pub record Refused (a : Agent) (call : Call) (o : Outcome) : Type 0 where
   pub number : isRefusal (o .answer) ≡ true
   pub silent : o .line ≡ []
   pub buffer : (bytes : List ℕ) → leftIn o bytes ≡ bytes
   pub state : o .agent ≡ changed (rowOf (syncInRun a call) (o .answer)) a
   pub others : ButFor (rowOf (syncInRun a call) (o .answer)) a (o .agent)
+  pub named : length (a .regs) ≡ 256 → Makes (rowOf (syncInRun a call) (o .answer)) a (o .agent)
