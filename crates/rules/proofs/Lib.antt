@@ -1,4 +1,14 @@
 pub mod BusTraps
+pub mod MarkSteps
+pub mod Cases
+pub mod ButFor
+pub mod Makes
+pub mod Refused
+pub mod Rows
+pub mod QuietBits
+pub mod Calm
+pub mod RowKeeps
+pub mod CountersKept
 pub mod TakenFits
 pub mod ServedFrames
 pub mod Parts

@@ -16,3 +16,5 @@ pub mod Sound
 pub mod FrameCall
 pub mod Calls
 pub mod Good
+pub mod Refusals
+pub mod Counters

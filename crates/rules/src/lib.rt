@@ -1,6 +1,7 @@
 // The state of the module's bus agent. What the calls do to it is defined in specs/, in the order of document 01.
 
 use frames::kinds::Frame;
+ghost use mathlib.Core.Path.{_≡_};
 
 // Plain unsigned numbers and arrays only: every bit pattern that a host hands in is a value, and soundness decides.
 #[repr(C)]
@@ -52,6 +53,8 @@ pub struct Deed {
 }
 
 // The same byte. A crate has at least one function.
-pub fn same(x: u8) -> u8 {
+pub fn same(x: u8) -> u8
+    ensures { λ r. ⌜ r ≡ x ⌝ }
+{
     x
 }

@@ -1,0 +1,142 @@
+-- What each change of the table of refusals leaves as it was: every register and every field but those that it names.
+-- Assumes nothing.
+use mathlib.Core.Bool.{Bool, true, false, _&&_, _||_}
+use mathlib.Core.List.{List, [], _∷_}
+use mathlib.Core.Path.{_≡_, refl, sym, _∙_}
+use Prim.Native.Nat.{ℕ}
+use native.Mathlib.Omega.{arith}
+use borrow.Author.Tests.{eqb-false, leb-false}
+use lib.Bits.{bitOr}
+use lib.Dec.{eqb, leb}
+use lib.ListN.{length, getD, replicate, length-replicate}
+use lib.Seq.{sets, length-sets, getD-set-other}
+use Rattle.base.specs.Choice.{within}
+use Rattle.base.proofs.Choosing.{never, or-left-false, or-right-false}
+use Rattle.base.proofs.Stored.{stored-before, stored-behind}
+use Rattle.rules.specs.Fallback.{withheld, enterFallback}
+use Rattle.rules.specs.Marks.{counter, lineMarked, formatMarked, sequenceMarked}
+use Rattle.rules.specs.Refusals.{Change, nothing, lineMark, formatMark, sequenceMark, sequenceFall, oneTaken, changed, namesRegister, ButFor}
+use Rattle.rules.specs.Registers.{outRep, statut, cptSeq, cptFor, outputsAt, image}
+use Rattle.rules.specs.State.{reg, store, withRegs}
+use Rattle.rules.specs.declared.Agent.{Agent}
+
+-- a register that is not stored to
+pub other-stored : (i x : ℕ) (a : Agent) (j : ℕ) → eqb j i ≡ false → reg (store i x a) j ≡ reg a j
+other-stored i x a j e = getD-set-other (a .regs) i j x 0 (eqb-false j i e)
+
+-- outside a run of stores from 80h to BFh
+outputs-stored : (r xs : List ℕ) (j : ℕ) → length xs ≡ image → within 0x80 0xBF j ≡ false → getD (sets r outputsAt xs) j 0 ≡ getD r j 0
+outputs-stored r xs j l e = go (leb 0x80 j) (leb j 0xBF) refl refl e
+  where
+    go : (p q : Bool) → leb 0x80 j ≡ p → leb j 0xBF ≡ q → (p && q) ≡ false → getD (sets r outputsAt xs) j 0 ≡ getD r j 0
+    go false q low high n = stored-before r outputsAt xs j (leb-false 0x80 j low)
+    go true false low high n = stored-behind r outputsAt xs j (omega (arith, leb-false j 0xBF high))
+    go true true low high n = cc
+
+module _ (a : Agent) where
+  line-others : (i : ℕ) → eqb i statut ≡ false → reg (lineMarked a) i ≡ reg a i
+  unfolding lineMarked
+  line-others i e = other-stored statut (bitOr (reg a statut) 0x20) a i e
+
+  format-others : (i : ℕ) → (eqb i statut || eqb i cptFor) ≡ false → reg (formatMarked a) i ≡ reg a i
+  unfolding formatMarked
+  format-others i e =
+      other-stored cptFor (counter (reg a cptFor)) (lineMarked a) i (or-right-false (eqb i statut) (eqb i cptFor) e)
+      ∙ line-others i (or-left-false (eqb i statut) (eqb i cptFor) e)
+
+  sequence-others : (i : ℕ) → eqb i statut ≡ false → eqb i cptSeq ≡ false → reg (sequenceMarked a) i ≡ reg a i
+  unfolding sequenceMarked
+  sequence-others i e h =
+      other-stored cptSeq (counter (reg a cptSeq)) (store statut (bitOr (reg a statut) 0x02) a) i h
+      ∙ other-stored statut (bitOr (reg a statut) 0x02) a i e
+
+  pub fallback-others : (i : ℕ) → eqb i statut ≡ false → eqb i outRep ≡ false → within 0x80 0xBF i ≡ false → reg (enterFallback a) i ≡ reg a i
+  unfolding enterFallback
+  fallback-others i e h k =
+      let marked : Agent = store statut (bitOr (reg a statut) 0x80) a in
+      outputs-stored (store outRep withheld marked .regs) (replicate image 0) i (length-replicate {A = ℕ} image 0) k
+      ∙ other-stored outRep withheld marked i h ∙ other-stored statut (bitOr (reg a statut) 0x80) a i e
+
+-- a change of registers alone
+only-registers : (c : Change) (a : Agent) (r : List ℕ) → ((i : ℕ) → namesRegister c i ≡ false → getD r i 0 ≡ reg a i) → length r ≡ length (a .regs)
+    → ButFor c a (withRegs r a)
+only-registers c a r h l = record {
+  registers = h;
+  size = l;
+  mode = λ e. refl;
+  q = λ e. refl;
+  k = λ e. refl;
+  c-same = refl;
+  heard = refl;
+  e = refl;
+  s = refl;
+  last-source = refl;
+  recorded = refl;
+  recorded-count = refl;
+}
+
+module _ (a : Agent) where
+  line-size : length (lineMarked a .regs) ≡ length (a .regs)
+  unfolding lineMarked
+  line-size = length-sets (a .regs) statut (bitOr (reg a statut) 0x20 ∷ [])
+
+  sequence-size : length (sequenceMarked a .regs) ≡ length (a .regs)
+  unfolding sequenceMarked
+  sequence-size =
+      length-sets (store statut (bitOr (reg a statut) 0x02) a .regs) cptSeq (counter (reg a cptSeq) ∷ [])
+      ∙ length-sets (a .regs) statut (bitOr (reg a statut) 0x02 ∷ [])
+
+  fallen-size : length (enterFallback a .regs) ≡ length (a .regs)
+  unfolding enterFallback
+  fallen-size =
+      let marked : Agent = store statut (bitOr (reg a statut) 0x80) a in
+      length-sets (store outRep withheld marked .regs) outputsAt (replicate image 0)
+      ∙ length-sets (marked .regs) outRep (withheld ∷ []) ∙ length-sets (a .regs) statut (bitOr (reg a statut) 0x80 ∷ [])
+
+  sequence-but : (i : ℕ) → (eqb i statut || eqb i cptSeq) ≡ false → reg (sequenceMarked a) i ≡ reg a i
+  sequence-but i h = sequence-others a i (or-left-false (eqb i statut) (eqb i cptSeq) h) (or-right-false (eqb i statut) (eqb i cptSeq) h)
+
+  fell-but : (i : ℕ) → namesRegister sequenceFall i ≡ false → reg (enterFallback (sequenceMarked a)) i ≡ reg a i
+  fell-but i h =
+      let st : eqb i statut ≡ false = or-left-false (eqb i statut) _ h in
+      let past = or-right-false (eqb i statut) (eqb i cptSeq || (eqb i outRep || within 0x80 0xBF i)) h in
+      let rest = or-right-false (eqb i cptSeq) (eqb i outRep || within 0x80 0xBF i) past in
+      fallback-others (sequenceMarked a) i st (or-left-false (eqb i outRep) (within 0x80 0xBF i) rest) (or-right-false (eqb i outRep) (within 0x80 0xBF i) rest)
+      ∙ sequence-others a i st (or-left-false (eqb i cptSeq) (eqb i outRep || within 0x80 0xBF i) past)
+
+module _ (a : Agent) where
+  pub but-for : (c : Change) → ButFor c a (changed c a)
+  unfolding lineMarked formatMarked sequenceMarked enterFallback
+  but-for nothing = only-registers nothing a (a .regs) (λ i e. refl) refl
+  but-for lineMark = only-registers lineMark a (lineMarked a .regs) (line-others a) (line-size a)
+  but-for formatMark =
+      only-registers formatMark a (formatMarked a .regs) (format-others a) (length-sets (lineMarked a .regs) cptFor (counter (reg a cptFor) ∷ []) ∙ line-size a)
+  but-for sequenceMark = only-registers sequenceMark a (sequenceMarked a .regs) (sequence-but a) (sequence-size a)
+  but-for sequenceFall = record {
+    registers = fell-but a;
+    size = fallen-size (sequenceMarked a) ∙ sequence-size a;
+    mode = λ e. never (sym e);
+    q = λ e. never (sym e);
+    k = λ e. refl;
+    c-same = refl;
+    heard = refl;
+    e = refl;
+    s = refl;
+    last-source = refl;
+    recorded = refl;
+    recorded-count = refl;
+  }
+  but-for oneTaken = record {
+    registers = λ i e. refl;
+    size = refl;
+    mode = λ e. refl;
+    q = λ e. refl;
+    k = λ e. never (sym e);
+    c-same = refl;
+    heard = refl;
+    e = refl;
+    s = refl;
+    last-source = refl;
+    recorded = refl;
+    recorded-count = refl;
+  }

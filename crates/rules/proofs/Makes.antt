@@ -1,0 +1,111 @@
+-- What each change of the table of refusals makes of the parts that it names, in an agent of 256 registers. Assumes nothing.
+use mathlib.Core.Bool.{true, false}
+use mathlib.Core.List.{[], _∷_}
+use mathlib.Core.Path.{_≡_, refl, ap, _∙_, subst, sym}
+use Prim.Native.Nat.{ℕ, _<_}
+use native.Mathlib.Omega.{arith}
+use borrow.Author.Tests.{eqb-true}
+use lib.Bits.{bitOr}
+use lib.Dec.{eqb}
+use lib.ListN.{length, replicate}
+use lib.Seq.{length-sets, getD-set-same}
+use Rattle.base.proofs.Choosing.{never}
+use Rattle.base.proofs.Stored.{stored-before}
+use Rattle.rules.specs.Fallback.{withheld, enterFallback}
+use Rattle.rules.specs.Marks.{counter, lineMarked, formatMarked, sequenceMarked}
+use Rattle.rules.specs.Refusals.{Change, nothing, lineMark, formatMark, sequenceMark, sequenceFall, oneTaken, namesMode, namesTaken, changed, statusBy, raises, Makes}
+use Rattle.rules.specs.Registers.{outRep, statut, cptSeq, cptFor, outputsAt, image}
+use Rattle.rules.specs.State.{reg, store}
+use Rattle.rules.specs.declared.Agent.{Agent}
+use Rattle.rules.proofs.BusTraps.{fallback-clears}
+use Rattle.rules.proofs.ButFor.{but-for, other-stored, fallback-others}
+
+stored-there : (i x : ℕ) (a : Agent) → i < length (a .regs) → reg (store i x a) i ≡ x
+stored-there i x a h = getD-set-same (a .regs) i x 0 h
+
+module _ (a : Agent) (size : length (a .regs) ≡ 256) where
+  line-status : reg (lineMarked a) statut ≡ bitOr (reg a statut) 0x20
+  unfolding lineMarked
+  line-status = stored-there statut (bitOr (reg a statut) 0x20) a (omega (arith, size))
+
+  format-status : reg (formatMarked a) statut ≡ bitOr (reg a statut) 0x20
+  unfolding formatMarked
+  format-status = other-stored cptFor (counter (reg a cptFor)) (lineMarked a) statut refl ∙ line-status
+
+  format-counter : reg (formatMarked a) cptFor ≡ counter (reg a cptFor)
+  unfolding formatMarked
+  format-counter = stored-there cptFor (counter (reg a cptFor)) (lineMarked a) (omega (arith, size, but-for a lineMark .size))
+
+  sequence-status : reg (sequenceMarked a) statut ≡ bitOr (reg a statut) 0x02
+  unfolding sequenceMarked
+  sequence-status =
+      let x : ℕ = bitOr (reg a statut) 0x02 in
+      other-stored cptSeq (counter (reg a cptSeq)) (store statut x a) statut refl ∙ stored-there statut x a (omega (arith, size))
+
+  sequence-counter : reg (sequenceMarked a) cptSeq ≡ counter (reg a cptSeq)
+  unfolding sequenceMarked
+  sequence-counter =
+      let x : ℕ = bitOr (reg a statut) 0x02 in
+      stored-there cptSeq (counter (reg a cptSeq)) (store statut x a) (omega (arith, size, length-sets (a .regs) statut (x ∷ [])))
+
+  fallen-status : reg (enterFallback a) statut ≡ bitOr (reg a statut) 0x80
+  unfolding enterFallback
+  fallen-status =
+      let marked : Agent = store statut (bitOr (reg a statut) 0x80) a in
+      stored-before (store outRep withheld marked .regs) outputsAt (replicate image 0) statut (omega arith)
+      ∙ other-stored outRep withheld marked statut refl ∙ stored-there statut (bitOr (reg a statut) 0x80) a (omega (arith, size))
+
+  fallen-release : reg (enterFallback a) outRep ≡ withheld
+  unfolding enterFallback
+  fallen-release =
+      let x : ℕ = bitOr (reg a statut) 0x80 in
+      stored-before (store outRep withheld (store statut x a) .regs) outputsAt (replicate image 0) outRep (omega arith)
+      ∙ stored-there outRep withheld (store statut x a) (omega (arith, size, length-sets (a .regs) statut (x ∷ [])))
+
+-- a change that names neither mode nor k
+only-marks : (c : Change) (a b : Agent) → namesMode c ≡ false → namesTaken c ≡ false → reg b statut ≡ statusBy c (reg a statut)
+    → ((i : ℕ) → raises c i ≡ true → reg b i ≡ counter (reg a i)) → Makes c a b
+only-marks c a b m t e h = record {
+  status = e;
+  counters = h;
+  fallback = λ x. never (sym m ∙ x);
+  not-released = λ x. never (sym m ∙ x);
+  outputs = λ x. never (sym m ∙ x);
+  k = λ x. never (sym t ∙ x);
+}
+
+-- at one counter
+at-counter : (a b : Agent) (j : ℕ) → reg b j ≡ counter (reg a j) → (i : ℕ) → eqb i j ≡ true → reg b i ≡ counter (reg a i)
+at-counter a b j e i h = subst (λ (k : ℕ). reg b k ≡ counter (reg a k)) (sym (eqb-true i j h)) e
+
+module _ (a : Agent) (size : length (a .regs) ≡ 256) where
+  fell-makes : Makes sequenceFall a (enterFallback (sequenceMarked a))
+  unfolding enterFallback
+  fell-makes =
+      let b : Agent = sequenceMarked a in
+      let l : length (b .regs) ≡ 256 = but-for a sequenceMark .size ∙ size in
+      record {
+        status = fallen-status b l ∙ ap (λ (x : ℕ). bitOr x 0x80) (sequence-status a size);
+        counters = at-counter a (enterFallback b) cptSeq (fallback-others b cptSeq refl refl refl ∙ sequence-counter a size);
+        fallback = λ e. (refl, refl);
+        not-released = λ e. fallen-release b l;
+        outputs = λ e. fallback-clears b l;
+        k = never;
+      }
+
+  pub makes : (c : Change) → Makes c a (changed c a)
+  makes nothing = only-marks nothing a a refl refl refl (λ i. never)
+  makes lineMark = only-marks lineMark a (lineMarked a) refl refl (line-status a size) (λ i. never)
+  makes formatMark =
+      only-marks formatMark a (formatMarked a) refl refl (format-status a size) (at-counter a (formatMarked a) cptFor (format-counter a size))
+  makes sequenceMark =
+      only-marks sequenceMark a (sequenceMarked a) refl refl (sequence-status a size) (at-counter a (sequenceMarked a) cptSeq (sequence-counter a size))
+  makes sequenceFall = fell-makes
+  makes oneTaken = record {
+    status = refl;
+    counters = λ i. never;
+    fallback = never;
+    not-released = never;
+    outputs = λ e. never e;
+    k = λ e. refl;
+  }

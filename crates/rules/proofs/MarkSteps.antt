@@ -1,0 +1,59 @@
+-- What a refusal marks, as steps: bits of STATUT set, other than 7 and 6, and counters raised. Assumes nothing.
+use mathlib.Core.Bool.{Bool, true, false, _&&_, _||_}
+use mathlib.Core.Path.{_≡_, refl}
+use Prim.Native.Nat.{ℕ}
+use lib.Bits.{bitOr}
+use lib.Dec.{eqb}
+use Rattle.base.proofs.Choosing.{never, and-right}
+use Rattle.rules.specs.Counters.{isCounter}
+use Rattle.rules.specs.Marks.{counter, lineMarked, formatMarked, sequenceMarked}
+use Rattle.rules.specs.Refusals.{Change, nothing, lineMark, formatMark, sequenceMark, sequenceFall, oneTaken, changed, isRefusal, rowOf}
+use Rattle.rules.specs.Registers.{statut, cptSeq, cptFor}
+use Rattle.rules.specs.State.{reg, store}
+use Rattle.rules.specs.declared.Agent.{Agent}
+
+-- bits 5 and 1
+abbrev pub isFlag : ℕ → Bool
+isFlag m = eqb m 0x20 || eqb m 0x02
+
+pub data Marks (a : Agent) : Agent → Type 0 where
+  none : Marks a a
+  sets : {b : Agent} (m : ℕ) → isFlag m ≡ true → Marks a b → Marks a (store statut (bitOr (reg b statut) m) b)
+  counts : {b : Agent} (i x : ℕ) → isCounter i ≡ true → Marks a b → Marks a (store i (counter x) b)
+
+-- a change that only marks
+abbrev pub onlyMarks : Change → Bool
+onlyMarks nothing = true
+onlyMarks lineMark = true
+onlyMarks formatMark = true
+onlyMarks sequenceMark = true
+onlyMarks sequenceFall = false
+onlyMarks oneTaken = false
+
+-- a refusal that only marks
+abbrev pub isMarking : Bool → ℕ → Bool
+isMarking syncInRun n = isRefusal n && onlyMarks (rowOf syncInRun n)
+
+module _ (a : Agent) where
+  line-marks : Marks a (lineMarked a)
+  unfolding lineMarked
+  line-marks = sets 0x20 refl none
+
+  format-marks : Marks a (formatMarked a)
+  unfolding formatMarked
+  format-marks = counts cptFor (reg a cptFor) refl line-marks
+
+  pub sequence-marks : Marks a (sequenceMarked a)
+  unfolding sequenceMarked
+  sequence-marks = counts cptSeq (reg a cptSeq) refl (sets 0x02 refl none)
+
+  pub change-marks : (c : Change) → onlyMarks c ≡ true → Marks a (changed c a)
+  change-marks nothing e = none
+  change-marks lineMark e = line-marks
+  change-marks formatMark e = format-marks
+  change-marks sequenceMark e = sequence-marks
+  change-marks sequenceFall e = never e
+  change-marks oneTaken e = never e
+
+  pub row-marks : (syncInRun : Bool) (n : ℕ) → isMarking syncInRun n ≡ true → Marks a (changed (rowOf syncInRun n) a)
+  row-marks b n e = change-marks (rowOf b n) (and-right (isRefusal n) (onlyMarks (rowOf b n)) e)

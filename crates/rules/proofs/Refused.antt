@@ -1,0 +1,93 @@
+-- Demand 1, over every call and every agent: a refusal sends nothing, leaves the reply buffer untouched, and changes exactly
+-- what its number's row says. Assumes nothing.
+use mathlib.Core.Bool.{Bool, true, not, _&&_}
+use mathlib.Core.List.{List}
+use mathlib.Core.Path.{_≡_, refl, sym, ap, _∙_, subst}
+use Prim.Native.Nat.{ℕ, _+_}
+use borrow.Author.Tests.{eqb-true}
+use lib.Dec.{eqb}
+use Rattle.base.proofs.Choosing.{never, and-left, or-cases}
+use Rattle.frames.specs.declared.kinds.Frame.{Frame}
+use Rattle.rules.specs.Answers.{accepted, cycle, elsewhere, crc, source, addressee, repeat, replyRoom, hostInput}
+use Rattle.rules.specs.Calls.{Call, frame, act}
+use Rattle.rules.specs.Refusals.{Change, nothing, isRefusal, rowOf, changed, leavesAll, readOf, isSync, readsSync, syncInRun, Refused}
+use Rattle.rules.specs.Replies.{Outcome, outcome, sent}
+use Rattle.rules.specs.State.{running, withTaken}
+use Rattle.rules.specs.Sync.{cycleFits}
+use Rattle.rules.specs.declared.Agent.{Agent}
+use Rattle.rules.specs.declared.Deed.{Deed}
+use Rattle.rules.specs.declared.Reply.the-variants.{Silent}
+use Rattle.rules.proofs.ButFor.{but-for}
+use Rattle.rules.proofs.Cases.{isHosts, KindCase, refuses, fell, outside, accepts, FrameCase, unread, taken, CallCase, unsoundly, hosts, ticks, stores, frames, call-case, by-sent, sent-silent}
+use Rattle.rules.proofs.Makes.{makes}
+use Rattle.rules.proofs.MarkSteps.{onlyMarks}
+
+sent-answer : (d : Deed) → sent d .answer ≡ d .answer
+sent-answer d = by-sent (λ o. o .answer ≡ d .answer) d refl (λ f. refl)
+
+-- a deed that is refused: its number, no reply, and the agent of its row
+record RefusedDeed (a : Agent) (sync : Bool) (d : Deed) : Type 0 where
+  number : isRefusal (d .answer) ≡ true
+  silent : d .reply ≡ Silent
+  state : d .agent ≡ changed (rowOf (sync && running a) (d .answer)) a
+
+hosts-number : (n : ℕ) → isHosts n ≡ true → isRefusal n ≡ true
+hosts-number n h = or-cases (eqb n replyRoom) (eqb n hostInput) h (λ e. rw (eqb-true n replyRoom e) refl) (λ e. rw (eqb-true n hostInput e) refl)
+
+module _ {a : Agent} where
+  kind-refused : {f : Frame} {xs : List ℕ} {d : Deed} → KindCase a f xs d → (d .answer ≡ accepted → ⊥) → RefusedDeed a (isSync f) d
+  kind-refused {f = f} (refuses n h) z =
+      record { number = and-left (isRefusal n) (onlyMarks (rowOf (isSync f && running a) n)) h; silent = refl; state = refl }
+  kind-refused (fell {cyc = cyc} e) z =
+      let run : running a ≡ true = and-left (running a) (not (cycleFits a cyc)) e in
+      record { number = refl; silent = refl; state = sym (ap (λ (b : Bool). changed (rowOf b cycle) a) run) }
+  kind-refused (outside p) z = record { number = refl; silent = refl; state = ap (λ (k : ℕ). withTaken (k + 1) a) (p .due) }
+  kind-refused (accepts c) z = absurd (z refl)
+
+  frame-refused : {body : List ℕ} {d : Deed} → FrameCase a body d → (d .answer ≡ accepted → ⊥) → RefusedDeed a (readsSync (readOf body)) d
+  frame-refused {body = body} (unread n h) z = record {
+    number = and-left (isRefusal n) (onlyMarks (rowOf (readsSync (readOf body) && running a) n)) h;
+    silent = refl;
+    state = refl;
+  }
+  frame-refused (taken {d = d} f v e c) z = subst (λ (b : Bool). RefusedDeed a b d) (sym (ap readsSync e)) (kind-refused c z)
+
+  -- the statement, from its number, what is sent and the agent
+  refusal : (call : Call) (n : ℕ) (b : Agent) → isRefusal n ≡ true → b ≡ changed (rowOf (syncInRun a call) n) a → Refused a call (outcome n b)
+  refusal call n b h e = record {
+    number = h;
+    silent = refl;
+    buffer = λ bytes. refl;
+    state = e;
+    others = rw e (but-for a (rowOf (syncInRun a call) n));
+    named = λ l. rw e (makes a l (rowOf (syncInRun a call) n));
+  }
+
+  hosts-row : (b : Bool) (n : ℕ) → isHosts n ≡ true → a ≡ changed (rowOf b n) a
+  hosts-row b n h = or-cases (eqb n replyRoom) (eqb n hostInput) h (λ e. rw (eqb-true n replyRoom e) refl) (λ e. rw (eqb-true n hostInput e) refl)
+
+  call-refused : {call : Call} {o : Outcome} → CallCase a call o → (o .answer ≡ accepted → ⊥) → Refused a call o
+  call-refused {call = call} (unsoundly e) z = refusal call _ a refl refl
+  call-refused {call = call} (hosts n h) z = refusal call n a (hosts-number n h) (hosts-row (syncInRun a call) n h)
+  call-refused ticks z = absurd (z refl)
+  call-refused (stores e) z = absurd (z refl)
+  call-refused (frames {port = port} {room = room} {body = body} {d = d} c) z =
+      let w = frame-refused c (λ e. z (sent-answer d ∙ e)) in
+      subst (Refused a (frame port body room)) (sym (sent-silent d (w .silent))) (refusal (frame port body room) (d .answer) (d .agent) (w .number) (w .state))
+
+pub refused : (a : Agent) (call : Call) → (act a call .answer ≡ accepted → ⊥) → Refused a call (act a call)
+refused a call = call-refused (call-case a call)
+
+-- the number is one of those, so its row is empty
+kept-row : (b : Bool) (n : ℕ) → leavesAll n ≡ true → rowOf b n ≡ nothing
+kept-row b n h =
+    or-cases (eqb n elsewhere) _ h (λ e. rw (eqb-true n elsewhere e) refl)
+    (λ h1. or-cases (eqb n crc) _ h1 (λ e. rw (eqb-true n crc e) refl)
+    (λ h2. or-cases (eqb n source) _ h2 (λ e. rw (eqb-true n source e) refl)
+    (λ h3. or-cases (eqb n addressee) (eqb n repeat) h3 (λ e. rw (eqb-true n addressee e) refl) (λ e. rw (eqb-true n repeat e) refl))))
+
+-- 6, 9, 10, 11 and 13 leave the agent as it is
+pub untouched : (a : Agent) (call : Call) → leavesAll (act a call .answer) ≡ true → act a call .agent ≡ a
+untouched a call h =
+    refused a call (λ z. never (subst (λ (n : ℕ). leavesAll n ≡ true) z h)) .state
+    ∙ ap (λ (c : Change). changed c a) (kept-row (syncInRun a call) (act a call .answer) h)

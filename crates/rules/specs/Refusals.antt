@@ -1,0 +1,177 @@
+-- Document 01, "Who causes which number": what each refusal leaves. A refusal sends nothing, and changes no state but as
+-- its row says. Assumes nothing.
+use mathlib.Core.Bool.{Bool, true, false, _&&_, _||_}
+use mathlib.Core.List.{List, []}
+use mathlib.Core.Path.{_≡_}
+use Prim.Native.Nat.{ℕ, _+_, _<_}
+use lib.Bits.{bitOr}
+use lib.Dec.{eqb}
+use lib.ListN.{length, getD, take}
+use Rattle.base.specs.Choice.{choose, within}
+use Rattle.fields.specs.Fields.{numbers}
+use Rattle.wire.specs.Body.{readBody}
+use Rattle.frames.specs.Kinds.{headOf}
+use Rattle.frames.specs.declared.kinds.Frame.{Frame}
+use Rattle.frames.specs.declared.reading.Read.{Read}
+use Rattle.frames.specs.declared.reading.Read.the-variants.{Taken, Kind, Form, Check}
+use Rattle.rules.specs.Answers.{bodyLength, fcs, reserved, elsewhere, typ, form, crc, source, addressee, cycle, repeat, outOfOrder, tooMany, outsideRules, hostInput}
+use Rattle.rules.specs.Calls.{Call, tick, input, frame, leftIn}
+use Rattle.rules.specs.Fallback.{withheld, enterFallback}
+use Rattle.rules.specs.FrameCall.{agentRead}
+use Rattle.rules.specs.Marks.{counter, lineMarked, formatMarked, sequenceMarked}
+use Rattle.rules.specs.Registers.{outRep, statut, cptSeq, cptFor, outputsAt, image}
+use Rattle.rules.specs.Replies.{Outcome}
+use Rattle.rules.specs.State.{inFallback, running, reg, withTaken}
+use Rattle.rules.specs.declared.Agent.{Agent}
+
+-- ---- the table
+
+-- what a refusal changes
+pub data Change : Type 0 where
+  nothing : Change
+  -- STATUT bit 5
+  lineMark : Change
+  -- STATUT bit 5, and CPT_FOR (24h) + 1
+  formatMark : Change
+  -- STATUT bit 1, and CPT_SEQ (20h) + 1
+  sequenceMark : Change
+  -- the same, and fallback
+  sequenceFall : Change
+  -- k + 1
+  oneTaken : Change
+
+-- the numbers of refusals: 1 to 21
+abbrev pub isRefusal : ℕ → Bool
+isRefusal n = within bodyLength hostInput n
+
+-- the row of a number. 1 to 4 are the line's, 5 and 6 other stations', 7 to 18 a concentrator's, 19 to 21 the host's;
+-- 12 has two rows: to a sync in RUN, and to a request
+abbrev pub rowOf : (syncInRun : Bool) → ℕ → Change
+rowOf syncInRun n =
+    choose (within bodyLength fcs n) lineMark
+    (choose (within reserved elsewhere n) nothing
+    (choose (eqb n typ) formatMark
+    (choose (within form addressee n) nothing
+    (choose (eqb n cycle) (choose syncInRun sequenceFall sequenceMark)
+    (choose (eqb n repeat) nothing
+    (choose (eqb n outOfOrder) sequenceMark
+    (choose (eqb n tooMany) nothing
+    (choose (eqb n outsideRules) oneTaken
+    nothing))))))))
+
+-- numbers of one reason each that leave no trace: 6, 9, 10, 11 and 13
+abbrev pub leavesAll : ℕ → Bool
+leavesAll n = eqb n elsewhere || (eqb n crc || (eqb n source || (eqb n addressee || eqb n repeat)))
+
+-- the agent that a change makes, whole
+abbrev pub changed : Change → Agent → Agent
+changed nothing a = a
+changed lineMark a = lineMarked a
+changed formatMark a = formatMarked a
+changed sequenceMark a = sequenceMarked a
+changed sequenceFall a = enterFallback (sequenceMarked a)
+changed oneTaken a = withTaken (a .taken + 1) a
+
+-- ---- the parts that a change names
+
+-- registers, by address
+abbrev pub namesRegister : Change → ℕ → Bool
+namesRegister nothing i = false
+namesRegister lineMark i = eqb i statut
+namesRegister formatMark i = eqb i statut || eqb i cptFor
+namesRegister sequenceMark i = eqb i statut || eqb i cptSeq
+namesRegister sequenceFall i = eqb i statut || (eqb i cptSeq || (eqb i outRep || within 0x80 0xBF i))
+namesRegister oneTaken i = false
+
+-- mode and q
+abbrev pub namesMode : Change → Bool
+namesMode nothing = false
+namesMode lineMark = false
+namesMode formatMark = false
+namesMode sequenceMark = false
+namesMode sequenceFall = true
+namesMode oneTaken = false
+
+-- k
+abbrev pub namesTaken : Change → Bool
+namesTaken nothing = false
+namesTaken lineMark = false
+namesTaken formatMark = false
+namesTaken sequenceMark = false
+namesTaken sequenceFall = false
+namesTaken oneTaken = true
+
+-- b is a but for the parts that a change names
+pub record ButFor (c : Change) (a b : Agent) : Type 0 where
+  pub registers : (i : ℕ) → namesRegister c i ≡ false → reg b i ≡ reg a i
+  pub size : length (b .regs) ≡ length (a .regs)
+  pub mode : namesMode c ≡ false → b .mode ≡ a .mode
+  pub q : namesMode c ≡ false → b .idle ≡ a .idle
+  pub k : namesTaken c ≡ false → b .taken ≡ a .taken
+  pub c-same : b .cycle ≡ a .cycle
+  pub heard : b .heard ≡ a .heard
+  pub e : b .elapsed ≡ a .elapsed
+  pub s : b .silence ≡ a .silence
+  pub last-source : b .last ≡ a .last
+  pub recorded : b .known ≡ a .known
+  pub recorded-count : b .count ≡ a .count
+
+-- STATUT after a change: bit 5, bit 1, and bit 7 with fallback
+abbrev pub statusBy : Change → ℕ → ℕ
+statusBy nothing x = x
+statusBy lineMark x = bitOr x 0x20
+statusBy formatMark x = bitOr x 0x20
+statusBy sequenceMark x = bitOr x 0x02
+statusBy sequenceFall x = bitOr (bitOr x 0x02) 0x80
+statusBy oneTaken x = x
+
+-- the counters that go up by one and stop at 255
+abbrev pub raises : Change → ℕ → Bool
+raises nothing i = false
+raises lineMark i = false
+raises formatMark i = eqb i cptFor
+raises sequenceMark i = eqb i cptSeq
+raises sequenceFall i = eqb i cptSeq
+raises oneTaken i = false
+
+-- what the parts named are in b
+pub record Makes (c : Change) (a b : Agent) : Type 0 where
+  pub status : reg b statut ≡ statusBy c (reg a statut)
+  pub counters : (i : ℕ) → raises c i ≡ true → reg b i ≡ counter (reg a i)
+  pub fallback : namesMode c ≡ true → (b .mode ≡ inFallback) × (b .idle ≡ 0)
+  pub not-released : namesMode c ≡ true → reg b outRep ≡ withheld
+  pub outputs : namesMode c ≡ true → (i : ℕ) → i < image → reg b (outputsAt + i) ≡ 0
+  pub k : namesTaken c ≡ true → b .taken ≡ a .taken + 1
+
+-- ---- a refused call
+
+-- what the body of a call is read as, whether it is a sync (TYP 00h), and whether it is one in RUN
+abbrev pub readOf : List ℕ → Read
+readOf body = agentRead (readBody body .addr) (take (readBody body .len) (readBody body .bytes))
+
+abbrev pub isSync : Frame → Bool
+isSync f = eqb (getD (numbers (headOf f)) 0 0) 0x00
+
+abbrev pub readsSync : Read → Bool
+readsSync (Taken f) = isSync f
+readsSync Kind = false
+readsSync Form = false
+readsSync Check = false
+
+abbrev pub bringsSync : Call → Bool
+bringsSync tick = false
+bringsSync (input xs) = false
+bringsSync (frame port body room) = readsSync (readOf body)
+
+abbrev pub syncInRun : Agent → Call → Bool
+syncInRun a call = bringsSync call && running a
+
+-- its number is one of the table, nothing is sent, the reply buffer is untouched, the agent is the one of the number's row;
+-- that is the agent before but for the parts that the row names, and these are as the row says where there are 256 registers
+pub record Refused (a : Agent) (call : Call) (o : Outcome) : Type 0 where
+  pub number : isRefusal (o .answer) ≡ true
+  pub silent : o .line ≡ []
+  pub buffer : (bytes : List ℕ) → leftIn o bytes ≡ bytes
+  pub state : o .agent ≡ changed (rowOf (syncInRun a call) (o .answer)) a
+  pub others : ButFor (rowOf (syncInRun a call) (o .answer)) a (o .agent)
+  pub named : length (a .regs) ≡ 256 → Makes (rowOf (syncInRun a call) (o .answer)) a (o .agent)
