@@ -64,13 +64,16 @@ fn on_kind(port: u8, a: Agent, f: Frame, s: &[u8]) -> Deed
     }
 }
 
-// Served: 00h, 07h, 3Ch, C3h.
+// Served: 00h, 07h, 3Ch, C3h, and nothing between them.
 fn served(typ: u8) -> bool
     ensures { λ r. ⌜ r ≡ served typ ⌝ }
 {
     match typ {
         0x00 | 0x07 | 0x3C | 0xC3 => true,
-        _ => false,
+        0x01..=0x06 => false,
+        0x08..=0x3B => false,
+        0x3D..=0xC2 => false,
+        0xC4..=0xFF => false,
     }
 }
 

@@ -1,9 +1,10 @@
 -- The kinds of frames by their words, and the fields of each in the order of a line. Assumes nothing.
 use mathlib.Core.Bool.{Bool, true, false}
-use mathlib.Core.List.{List, [], _∷_}
+use mathlib.Core.List.{List, [], _∷_, map}
 use Prim.Native.Nat.{ℕ, zero, suc, _+_, _*_}
 use Prim.Native.String.{String}
-use lib.ListN.{getD}
+use lib.ListN.{length, replicate, getD}
+use lib.Seq.{sets}
 use Rattle.frame_fields.specs.Chars.{chars}
 use Rattle.frame_fields.specs.Words.{wordAt}
 use Rattle.frame_fields.specs.declared.table.Kind.{Kind}
@@ -71,3 +72,16 @@ fieldsFrom names digits i (suc n) = (wordAt names (i * 8), getD digits i 0) ∷ 
 
 abbrev pub fieldsIn : Form → List Field
 fieldsIn f = fieldsFrom (f .names) (f .digits) 0 (f .count)
+
+-- and the other way: the word and the fields of a kind as the code holds them, spaces and zeros behind the last
+abbrev inColumns : List Field → ℕ → List ℕ → List ℕ
+inColumns [] i names = names
+inColumns (f ∷ fs) i names = inColumns fs (i + 1) (sets names (i * 8) (f .0))
+
+abbrev pub formOf : Kind → Form
+formOf k = record {
+  word = sets (replicate 20 0x20) 0 (kindWord k);
+  names = inColumns (fieldsOf k) 0 (replicate 64 0x20);
+  digits = sets (replicate 8 0) 0 (map (λ f. f .1) (fieldsOf k));
+  count = length (fieldsOf k);
+}

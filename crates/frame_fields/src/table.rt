@@ -1,8 +1,6 @@
 // The kinds of frames by their words, and the fields of each in the order of a line.
 ghost use mathlib.Core.Path.{_≡_};
-ghost use Prim.Native.Nat.{_≤_};
-ghost use Rattle.frame_fields.specs.Words.{wordAt};
-ghost use Rattle.frame_fields.specs.Table.{fieldsOf, fieldsIn, hasData, kindWord};
+ghost use Rattle.frame_fields.specs.Table.{formOf, hasData};
 
 pub enum Kind {
     Sync,
@@ -30,7 +28,7 @@ pub struct Form {
 }
 
 pub fn form_of(kind: Kind) -> Form
-    ensures { λ r. ⌜ (wordAt (r .word) 0 ≡ kindWord kind) × (fieldsIn r ≡ fieldsOf kind) × (r .count ≤ 8) ⌝ }
+    ensures { λ r. ⌜ r ≡ formOf kind ⌝ }
 {
     match kind {
         Kind::Sync => Form {

@@ -14,3 +14,5 @@ pub mod AppRuns
 pub mod Runs
 pub mod Typed
 pub mod WritingLaws
+pub mod Unbuilt
+pub mod Held

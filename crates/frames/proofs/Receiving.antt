@@ -2,11 +2,15 @@
 use mathlib.Core.Path.{_≡_, refl, ap, _∙_, subst}
 use Prim.Native.Nat.{ℕ}
 use mathlib.Core.List.{List}
+use mathlib.Core.Option.{some}
 use lib.ListN.{take}
+use Rattle.wire.specs.Answer.{Answer, andThen}
+use Rattle.wire.specs.Body.{verdictAnswer, readBody}
 use Rattle.wire.specs.declared.body.Body.{Body}
 use Rattle.wire.specs.declared.body.Verdict.{Verdict}
 use Rattle.wire.specs.declared.body.Verdict.the-variants as verdict
-use Rattle.frames.specs.Reading.{readApp, receivedApp, byVerdict, receivedBody}
+use Rattle.frames.specs.Kinds.{dataIn}
+use Rattle.frames.specs.Reading.{readApp, readAnswer, answerToApp, receivedApp, byVerdict, receivedBody, readFrame, receivedAnswer, answerToFrame}
 use Rattle.frames.specs.declared.reading.Read.{Read}
 use Rattle.frames.specs.declared.reading.Read.the-variants.{Taken, Kind, Form, Check}
 use Rattle.frames.specs.declared.reading.Reading.the-variants as reading
@@ -45,3 +49,27 @@ pub read-holds : (b : Body) (f : Frame) → b .verdict ≡ verdict.Taken → rea
     → receivedBody b ≡ record { reading = reading.Taken (b .addr) f; bytes = b .bytes; len = b .len }
 unfolding receivedBody
 read-holds b f v r = ap (λ (x : Verdict). byVerdict x b) v ∙ ap (λ (x : Read). receivedApp x b) r
+
+-- ---- the answers: the number of the body's refusal, else that of its application data, else 0 and the values
+abbrev frameBeside : Body → Frame → Answer (ℕ × Frame × List ℕ)
+frameBeside b f = (0, some (b .addr, f, dataIn f (appIn b)))
+
+answer-by-read : (r : Read) (b : Body) → receivedAnswer (receivedApp r b) ≡ andThen (readAnswer r) (frameBeside b)
+answer-by-read (Taken f) b = refl
+answer-by-read Kind b = refl
+answer-by-read Form b = refl
+answer-by-read Check b = refl
+
+answer-by-verdict : (v : Verdict) (b : Body)
+    → receivedAnswer (byVerdict v b)
+    ≡ andThen (verdictAnswer v (b .addr) (appIn b)) (λ x. andThen (answerToApp (x .0) (x .1)) (λ f. (0, some (x .0, f, dataIn f (x .1)))))
+answer-by-verdict verdict.Taken b = answer-by-read (readApp (b .addr) (appIn b)) b
+answer-by-verdict verdict.Length b = refl
+answer-by-verdict verdict.Stuffing b = refl
+answer-by-verdict verdict.Size b = refl
+answer-by-verdict verdict.Check b = refl
+answer-by-verdict verdict.Reserved b = refl
+
+pub passed-on : (s : List ℕ) → receivedAnswer (readFrame s) ≡ answerToFrame s
+unfolding readFrame receivedBody
+passed-on s = answer-by-verdict (readBody s .verdict) (readBody s)

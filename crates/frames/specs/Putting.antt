@@ -1,7 +1,8 @@
 -- How the code holds a list of fields. Assumes nothing.
-use mathlib.Core.List.{List, [], _∷_, _++_}
+use mathlib.Core.List.{List, [], _∷_, _++_, map}
 use Prim.Native.Nat.{ℕ, zero, suc}
-use lib.ListN.{getD}
+use lib.ListN.{length, replicate, getD}
+use lib.Seq.{sets}
 use Rattle.frames.specs.declared.putting.Fields.{Fields}
 
 -- the first n of the widths and numbers, in pairs
@@ -11,3 +12,11 @@ paired ws vs (suc n) = paired ws vs n ++ ((getD ws n 0, getD vs n 0) ∷ [])
 
 abbrev pub fieldsIn : Fields → List (ℕ × ℕ)
 fieldsIn f = paired (f .widths) (f .values) (f .count)
+
+-- and the other way: fields as the code holds them, with zeros behind the last
+abbrev pub heldAs : List (ℕ × ℕ) → Fields
+heldAs fs = record {
+  widths = sets (replicate 8 0) 0 (map (λ f. f .0) fs);
+  values = sets (replicate 8 0) 0 (map (λ f. f .1) fs);
+  count = length fs;
+}

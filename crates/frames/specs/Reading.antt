@@ -2,6 +2,7 @@
 -- `numberAt s position length` is a field. Assumes nothing.
 use mathlib.Core.Bool.{Bool, true, false, _&&_, _||_}
 use mathlib.Core.List.{List, []}
+use mathlib.Core.Option.{none, some}
 use Prim.Native.Nat.{ℕ, _+_, _-_}
 use lib.Dec.{eqb, ltb}
 use lib.ListN.{length, take, replicate}
@@ -9,10 +10,12 @@ use Rattle.base.specs.Choice.{choose}
 use Rattle.base.specs.Bytes.{numberAt}
 use Rattle.crc.specs.Crc.{crcOf}
 use Rattle.crc.specs.declared.Poly.the-variants.{Safety}
-use Rattle.wire.specs.Body.{readBody}
+use Rattle.wire.specs.Answer.{Answer, andThen}
+use Rattle.wire.specs.Body.{readBody, answerToBody}
 use Rattle.wire.specs.declared.body.Body.{Body}
 use Rattle.wire.specs.declared.body.Verdict.{Verdict}
 use Rattle.wire.specs.declared.body.Verdict.the-variants as verdict
+use Rattle.frames.specs.Kinds.{dataIn}
 use Rattle.frames.specs.declared.kinds.Frame.{Frame}
 use Rattle.frames.specs.declared.kinds.Frame.the-variants.{Sync, SafeRead, SafeWrite, PlainRead, PlainWrite, SafeResponse, PlainSyncResponse, PlainResponse, TidAssignment, SidAssignment, SidAssignment4, Acknowledgement, Invariants}
 use Rattle.frames.specs.declared.reading.Read.{Read}
@@ -122,23 +125,40 @@ readTyp typ a s =
 unfoldable pub readApp : ℕ → List ℕ → Read
 readApp a s = readTyp (numberAt s 0 1) a s
 
--- document 01's number
-abbrev pub readNumber : Read → ℕ
-readNumber (Taken f) = 0
-readNumber Kind = 7
-readNumber Form = 8
-readNumber Check = 9
+-- document 01's number of each answer to application data and, beside 0, the frame
+abbrev pub readAnswer : Read → Answer Frame
+readAnswer (Taken f) = (0, some f)
+readAnswer Kind = (7, none)
+readAnswer Form = (8, none)
+readAnswer Check = (9, none)
 
+-- the number alone
+abbrev pub readNumber : Read → ℕ
+readNumber r = readAnswer r .0
+
+-- the answer to application data that came for an address
+abbrev pub answerToApp : ℕ → List ℕ → Answer Frame
+answerToApp a s = readAnswer (readApp a s)
+
+-- document 01's number of each answer to a body and, beside 0, the address, the frame and its data bytes, of application data s
+abbrev pub readingAnswer : Reading → List ℕ → Answer (ℕ × Frame × List ℕ)
+readingAnswer (reading.Taken a f) s = (0, some (a, f, dataIn f s))
+readingAnswer reading.Length s = (1, none)
+readingAnswer reading.Stuffing s = (2, none)
+readingAnswer reading.Size s = (3, none)
+readingAnswer reading.Fcs s = (4, none)
+readingAnswer reading.Reserved s = (5, none)
+readingAnswer reading.Kind s = (7, none)
+readingAnswer reading.Form s = (8, none)
+readingAnswer reading.Check s = (9, none)
+
+-- the number alone
 abbrev pub readingNumber : Reading → ℕ
-readingNumber (reading.Taken a f) = 0
-readingNumber reading.Length = 1
-readingNumber reading.Stuffing = 2
-readingNumber reading.Size = 3
-readingNumber reading.Fcs = 4
-readingNumber reading.Reserved = 5
-readingNumber reading.Kind = 7
-readingNumber reading.Form = 8
-readingNumber reading.Check = 9
+readingNumber r = readingAnswer r [] .0
+
+-- the answer that the reader of frames holds
+abbrev pub receivedAnswer : Received → Answer (ℕ × Frame × List ℕ)
+receivedAnswer r = readingAnswer (r .reading) (take (r .len) (r .bytes))
 
 -- what a body is answered: a frame is taken with its application data, a refusal holds nothing
 abbrev pub refusedFrame : Reading → Received
@@ -164,3 +184,9 @@ receivedBody b = byVerdict (b .verdict) b
 -- the reader of frames
 unfoldable pub readFrame : List ℕ → Received
 readFrame s = receivedBody (readBody s)
+
+-- the answer to a body: a refusal of the body, then one of its application data, else the frame
+abbrev pub answerToFrame : List ℕ → Answer (ℕ × Frame × List ℕ)
+answerToFrame s =
+    andThen (answerToBody s)
+    (λ b. andThen (answerToApp (b .0) (b .1)) (λ f. (0, some (b .0, f, dataIn f (b .1)))))

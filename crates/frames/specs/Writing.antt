@@ -5,8 +5,9 @@ use Prim.Native.Nat.{ℕ}
 use lib.Dec.{eqb, ltb}
 use lib.ListN.{length}
 use Rattle.base.specs.Choice.{choose}
+use Rattle.wire.specs.Answer.{Answer}
 use Rattle.wire.specs.Body.{reservedAddr}
-use Rattle.wire.specs.Laying.{lineOf}
+use Rattle.wire.specs.Laying.{lineOf, laidAnswer}
 use Rattle.wire.specs.declared.laying.Laid.{Laid}
 use Rattle.wire.specs.declared.laying.Laid.the-variants.{Sent, Reserved, Form, Room}
 use Rattle.frames.specs.Kinds.{dataLen, appOf}
@@ -50,3 +51,7 @@ writtenOf n a f xs =
     (choose (ltb n (length (frameLine a f xs))) Room
     (Sent (length (frameLine a f xs))))
     Form)
+
+-- the same as document 01's number and value
+abbrev pub answerToWriting : ℕ → ℕ → Frame → List ℕ → Answer ℕ
+answerToWriting n a f xs = laidAnswer (writtenOf n a f xs)

@@ -1,12 +1,11 @@
 // The kinds of frames and their fields, as tables 4 to 12 of document 000 and document 01 have them.
 ghost use mathlib.Core.Path.{_≡_};
 ghost use mathlib.Core.List.{[], _∷_};
-ghost use Prim.Native.Nat.{_≤_};
 ghost use Rattle.frames.specs.Kinds.{headOf, tailOf, isSafe, dataLen};
-ghost use Rattle.frames.specs.Putting.{fieldsIn};
+ghost use Rattle.frames.specs.Putting.{heldAs};
 use crate::putting::Fields;
 
-// A frame without its data bytes, which stay in the application data: see `data_place` and `data_len`.
+// A frame without its data bytes. They stay in the application data, behind the fields of `head_of`, `data_len` of them.
 pub enum Frame {
     Sync {
         src: u32,
@@ -97,7 +96,7 @@ pub enum Frame {
 
 // The fields of safe requests and responses before their data.
 fn safe_head(typ: u8, dest: u32, src: u32, cyc: u8, seq: u8, com: u8, datl: u8, add: u8) -> Fields
-    ensures { λ r. ⌜ (fieldsIn r ≡ (1, typ) ∷ (3, dest) ∷ (3, src) ∷ (1, cyc) ∷ (1, seq) ∷ (1, «com») ∷ (1, datl) ∷ (1, add) ∷ []) × (r .count ≤ 8) ⌝ }
+    ensures { λ r. ⌜ r ≡ heldAs ((1, typ) ∷ (3, dest) ∷ (3, src) ∷ (1, cyc) ∷ (1, seq) ∷ (1, «com») ∷ (1, datl) ∷ (1, add) ∷ []) ⌝ }
 {
     Fields {
         widths: [1, 3, 3, 1, 1, 1, 1, 1],
@@ -117,7 +116,7 @@ fn safe_head(typ: u8, dest: u32, src: u32, cyc: u8, seq: u8, com: u8, datl: u8, 
 
 // The same of non-safe ones.
 fn plain_head(typ: u8, src: u8, com: u8, datl: u8, add: u8) -> Fields
-    ensures { λ r. ⌜ (fieldsIn r ≡ (1, typ) ∷ (1, src) ∷ (1, «com») ∷ (1, datl) ∷ (1, add) ∷ []) × (r .count ≤ 8) ⌝ }
+    ensures { λ r. ⌜ r ≡ heldAs ((1, typ) ∷ (1, src) ∷ (1, «com») ∷ (1, datl) ∷ (1, add) ∷ []) ⌝ }
 {
     Fields {
         widths: [1, 1, 1, 1, 1, 0, 0, 0],
@@ -136,7 +135,7 @@ fn plain_head(typ: u8, src: u8, com: u8, datl: u8, add: u8) -> Fields
 }
 
 fn sync_head(src: u32, cyc: u8) -> Fields
-    ensures { λ r. ⌜ (fieldsIn r ≡ (1, 0x00) ∷ (3, src) ∷ (1, cyc) ∷ []) × (r .count ≤ 8) ⌝ }
+    ensures { λ r. ⌜ r ≡ heldAs ((1, 0x00) ∷ (3, src) ∷ (1, cyc) ∷ []) ⌝ }
 {
     Fields {
         widths: [1, 3, 1, 0, 0, 0, 0, 0],
@@ -146,7 +145,7 @@ fn sync_head(src: u32, cyc: u8) -> Fields
 }
 
 fn tid_head(src: u8, iid: u64, tid: u8) -> Fields
-    ensures { λ r. ⌜ (fieldsIn r ≡ (1, 0x3C) ∷ (1, src) ∷ (8, iid) ∷ (1, tid) ∷ []) × (r .count ≤ 8) ⌝ }
+    ensures { λ r. ⌜ r ≡ heldAs ((1, 0x3C) ∷ (1, src) ∷ (8, iid) ∷ (1, tid) ∷ []) ⌝ }
 {
     Fields {
         widths: [1, 1, 8, 1, 0, 0, 0, 0],
@@ -156,7 +155,7 @@ fn tid_head(src: u8, iid: u64, tid: u8) -> Fields
 }
 
 fn sid_head(src: u32, sec: u32, mac: u64, sid: u32) -> Fields
-    ensures { λ r. ⌜ (fieldsIn r ≡ (1, 0xC3) ∷ (3, src) ∷ (4, sec) ∷ (8, mac) ∷ (3, sid) ∷ []) × (r .count ≤ 8) ⌝ }
+    ensures { λ r. ⌜ r ≡ heldAs ((1, 0xC3) ∷ (3, src) ∷ (4, sec) ∷ (8, mac) ∷ (3, sid) ∷ []) ⌝ }
 {
     Fields {
         widths: [1, 3, 4, 8, 3, 0, 0, 0],
@@ -166,7 +165,7 @@ fn sid_head(src: u32, sec: u32, mac: u64, sid: u32) -> Fields
 }
 
 fn sid4_head(src: u32, sec: u32, mac: u64, sid: u32, sid2: u32, src2: u32) -> Fields
-    ensures { λ r. ⌜ (fieldsIn r ≡ (1, 0xC3) ∷ (3, src) ∷ (4, sec) ∷ (8, mac) ∷ (3, sid) ∷ (3, sid2) ∷ (3, src2) ∷ []) × (r .count ≤ 8) ⌝ }
+    ensures { λ r. ⌜ r ≡ heldAs ((1, 0xC3) ∷ (3, src) ∷ (4, sec) ∷ (8, mac) ∷ (3, sid) ∷ (3, sid2) ∷ (3, src2) ∷ []) ⌝ }
 {
     Fields {
         widths: [1, 3, 4, 8, 3, 3, 3, 0],
@@ -185,7 +184,7 @@ fn sid4_head(src: u32, sec: u32, mac: u64, sid: u32, sid2: u32, src2: u32) -> Fi
 }
 
 fn acknowledgement_head(src: u32, dst: u32, sec: u32, mac: u64) -> Fields
-    ensures { λ r. ⌜ (fieldsIn r ≡ (1, 0x33) ∷ (3, src) ∷ (3, dst) ∷ (4, sec) ∷ (8, mac) ∷ []) × (r .count ≤ 8) ⌝ }
+    ensures { λ r. ⌜ r ≡ heldAs ((1, 0x33) ∷ (3, src) ∷ (3, dst) ∷ (4, sec) ∷ (8, mac) ∷ []) ⌝ }
 {
     Fields {
         widths: [1, 3, 3, 4, 8, 0, 0, 0],
@@ -195,7 +194,7 @@ fn acknowledgement_head(src: u32, dst: u32, sec: u32, mac: u64) -> Fields
 }
 
 fn invariants_head(dest: u32, src: u32, cyc: u8, seq: u8, config: u16, logic: u16) -> Fields
-    ensures { λ r. ⌜ (fieldsIn r ≡ (1, 0xB4) ∷ (3, dest) ∷ (3, src) ∷ (1, cyc) ∷ (1, seq) ∷ (2, config) ∷ (2, logic) ∷ []) × (r .count ≤ 8) ⌝ }
+    ensures { λ r. ⌜ r ≡ heldAs ((1, 0xB4) ∷ (3, dest) ∷ (3, src) ∷ (1, cyc) ∷ (1, seq) ∷ (2, config) ∷ (2, logic) ∷ []) ⌝ }
 {
     Fields {
         widths: [1, 3, 3, 1, 1, 2, 2, 0],
@@ -215,7 +214,7 @@ fn invariants_head(dest: u32, src: u32, cyc: u8, seq: u8, config: u16, logic: u1
 
 // The fields before the data, by kind.
 pub fn head_of(f: Frame) -> Fields
-    ensures { λ r. ⌜ (fieldsIn r ≡ headOf f) × (r .count ≤ 8) ⌝ }
+    ensures { λ r. ⌜ r ≡ heldAs (headOf f) ⌝ }
 {
     match f {
         Frame::Sync { src, cyc } => sync_head(src, cyc),
@@ -282,7 +281,7 @@ pub fn head_of(f: Frame) -> Fields
 }
 
 fn no_fields() -> Fields
-    ensures { λ r. ⌜ (fieldsIn r ≡ []) × (r .count ≤ 8) ⌝ }
+    ensures { λ r. ⌜ r ≡ heldAs [] ⌝ }
 {
     Fields {
         widths: [0; 8],
@@ -292,7 +291,7 @@ fn no_fields() -> Fields
 }
 
 fn status_field(stat: u8) -> Fields
-    ensures { λ r. ⌜ (fieldsIn r ≡ (1, stat) ∷ []) × (r .count ≤ 8) ⌝ }
+    ensures { λ r. ⌜ r ≡ heldAs ((1, stat) ∷ []) ⌝ }
 {
     Fields {
         widths: [1, 0, 0, 0, 0, 0, 0, 0],
@@ -303,7 +302,7 @@ fn status_field(stat: u8) -> Fields
 
 // The fields behind the data.
 pub fn tail_of(f: Frame) -> Fields
-    ensures { λ r. ⌜ (fieldsIn r ≡ tailOf f) × (r .count ≤ 8) ⌝ }
+    ensures { λ r. ⌜ r ≡ heldAs (tailOf f) ⌝ }
 {
     match f {
         Frame::Sync { .. } => no_fields(),

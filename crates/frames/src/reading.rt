@@ -2,7 +2,7 @@
 ghost use mathlib.Core.Path.{_≡_};
 ghost use Prim.Native.Nat.{_≤_};
 ghost use lib.ListN.{take};
-ghost use Rattle.frames.specs.Reading.{safeOk, safeRead, plainRead, readSync, readSafeRequest, readPlainRequest, safeCom, readSafeResponse, plainCom, readPlainResponse, readTidAssignment, readSidAssignment, readAcknowledgement, readInvariants, readApp, refusedFrame, receivedApp, receivedBody, readFrame, readNumber, readingNumber, safeReadRequest, safeWriteRequest, sil2Assignment, sil4Assignment};
+ghost use Rattle.frames.specs.Reading.{safeOk, safeRead, plainRead, readSync, readSafeRequest, readPlainRequest, safeCom, readSafeResponse, plainCom, readPlainResponse, readTidAssignment, readSidAssignment, readAcknowledgement, readInvariants, readTyp, readApp, readAnswer, answerToApp, refusedFrame, receivedApp, receivedBody, readFrame, receivedAnswer, answerToFrame, readNumber, readingNumber, safeReadRequest, safeWriteRequest, sil2Assignment, sil4Assignment};
 use crate::kinds::Frame;
 use crc::Poly;
 use fields::byte_field;
@@ -346,23 +346,36 @@ fn read_invariants(s: &[u8]) -> Read
     )
 }
 
-// Application data that came for an address: the TYP byte decides.
-pub fn read_app(addr: u8, s: &[u8]) -> Read
-    ensures { λ r. ⌜ r ≡ readApp addr (now (s .entry)) ⌝ }
+// The TYP byte decides. Between the types that are built stand those that are not.
+fn read_typ(typ: u8, addr: u8, s: &[u8]) -> Read
+    ensures { λ r. ⌜ r ≡ readTyp typ addr (now (s .entry)) ⌝ }
 {
-    let typ = byte_field(s, 0);
     match typ {
         0x00 => read_sync(addr, s),
+        0x01..=0x06 => Read::Kind,
         0x07 => read_safe_request(s),
         0x08 => read_plain_request(s),
+        0x09..=0x32 => Read::Kind,
         0x33 => read_acknowledgement(s),
+        0x34..=0x3B => Read::Kind,
         0x3C => read_tid_assignment(s),
+        0x3D..=0x6F => Read::Kind,
         0x70 => read_safe_response(s),
+        0x71..=0x7F => Read::Kind,
         0x80 => read_plain_response(s),
+        0x81..=0xB3 => Read::Kind,
         0xB4 => read_invariants(s),
+        0xB5..=0xC2 => Read::Kind,
         0xC3 => read_sid_assignment(s),
-        _ => Read::Kind,
+        0xC4..=0xFF => Read::Kind,
     }
+}
+
+// Application data that came for an address.
+pub fn read_app(addr: u8, s: &[u8]) -> Read
+    ensures { λ r. ⌜ (r ≡ readApp addr (now (s .entry))) × (readAnswer r ≡ answerToApp addr (now (s .entry))) ⌝ }
+{
+    read_typ(byte_field(s, 0), addr, s)
 }
 
 fn refused(reading: Reading) -> Received
@@ -413,7 +426,7 @@ fn received_body(b: Body) -> Received
 
 // A body as it came from the line.
 pub fn read_frame(body: &[u8]) -> Received
-    ensures { λ r. ⌜ r ≡ readFrame (now (body .entry)) ⌝ }
+    ensures { λ r. ⌜ (r ≡ readFrame (now (body .entry))) × (receivedAnswer r ≡ answerToFrame (now (body .entry))) ⌝ }
 {
     received_body(wire::body::read_body(body))
 }

@@ -3,9 +3,9 @@ ghost use mathlib.Core.Path.{_≡_};
 ghost use Prim.Native.Nat.{_≤_};
 ghost use lib.ListN.{length};
 ghost use lib.Seq.{sets};
-ghost use Rattle.wire.specs.Laying.{leftBy};
+ghost use Rattle.wire.specs.Laying.{leftBy, laidAnswer};
 ghost use Rattle.frames.specs.Kinds.{appOf};
-ghost use Rattle.frames.specs.Writing.{fieldsFit, fits, frameLine, writtenOf};
+ghost use Rattle.frames.specs.Writing.{fieldsFit, fits, frameLine, writtenOf, answerToWriting};
 use crate::kinds;
 use crate::kinds::Frame;
 use crate::putting;
@@ -71,7 +71,7 @@ fn put_app(dst: &mut [u8], f: Frame, data: &[u8]) -> usize
 
 // A frame with its data for an address, or a refusal with the buffer untouched.
 pub fn write_frame(buf: &mut [u8], addr: u8, f: Frame, data: &[u8]) -> Laid
-    ensures { λ r. ⌜ (r ≡ writtenOf (length (now (buf .entry))) addr f (now («data» .entry))) × (now (buf .exit) ≡ leftBy r (frameLine addr f (now («data» .entry))) (now (buf .entry))) ⌝ }
+    ensures { λ r. ⌜ (r ≡ writtenOf (length (now (buf .entry))) addr f (now («data» .entry))) × (now (buf .exit) ≡ leftBy r (frameLine addr f (now («data» .entry))) (now (buf .entry))) × (laidAnswer r ≡ answerToWriting (length (now (buf .entry))) addr f (now («data» .entry))) ⌝ }
 {
     if wire::body::reserved(addr) {
         return Laid::Reserved;

@@ -1,3 +1,4 @@
+pub mod AnswerLaws
 pub mod StuffingLaws
 pub mod BodyLaws
 pub mod LayingLaws

@@ -1,26 +1,36 @@
 -- The body between two flags, as it is read: numbers 1 to 5. Assumes nothing.
 use mathlib.Core.Bool.{Bool, _||_}
-use mathlib.Core.List.{List, _∷_}
+use mathlib.Core.List.{List, [], _∷_}
+use mathlib.Core.Option.{none, some}
 use Prim.Native.Nat.{ℕ, _+_, _-_, _*_}
 use lib.Dec.{eqb, ltb}
 use lib.ListN.{length, replicate, take, drop, getD}
 use Rattle.base.specs.Choice.{choose, within}
 use Rattle.crc.specs.Crc.{crcOf}
 use Rattle.crc.specs.declared.Poly.the-variants.{Fcs}
+use Rattle.wire.specs.Answer.{Answer}
 use Rattle.wire.specs.Stuffing.{unstuff, plainOf}
 use Rattle.wire.specs.declared.stuffing.Unstuffed.{Unstuffed}
 use Rattle.wire.specs.declared.body.Verdict.{Verdict}
 use Rattle.wire.specs.declared.body.Verdict.the-variants.{Taken, Length, Stuffing, Size, Check, Reserved}
 use Rattle.wire.specs.declared.body.Body.{Body}
 
--- document 01's number of a verdict
+-- document 01's number of each verdict and, beside 0, the address and the application data
+abbrev pub verdictAnswer : Verdict → ℕ → List ℕ → Answer (ℕ × List ℕ)
+verdictAnswer Taken a xs = (0, some (a, xs))
+verdictAnswer Length a xs = (1, none)
+verdictAnswer Stuffing a xs = (2, none)
+verdictAnswer Size a xs = (3, none)
+verdictAnswer Check a xs = (4, none)
+verdictAnswer Reserved a xs = (5, none)
+
+-- the number alone
 abbrev pub verdictNumber : Verdict → ℕ
-verdictNumber Taken = 0
-verdictNumber Length = 1
-verdictNumber Stuffing = 2
-verdictNumber Size = 3
-verdictNumber Check = 4
-verdictNumber Reserved = 5
+verdictNumber v = verdictAnswer v 0 [] .0
+
+-- the answer that a body holds
+abbrev pub bodyAnswer : Body → Answer (ℕ × List ℕ)
+bodyAnswer b = verdictAnswer (b .verdict) (b .addr) (take (b .len) (b .bytes))
 
 -- 00h, 7Dh, 7Eh, 91h to EFh and F9h to FEh are reserved
 unfoldable pub reservedAddr : ℕ → Bool
@@ -53,3 +63,7 @@ unfoldable pub readBody : List ℕ → Body
 readBody s =
     choose (ltb (length s) 7) (refusedBody Length)
     (choose (ltb 543 (length s)) (refusedBody Length) (unstuffedBody (getD s 0 0) (plainOf (unstuff (drop 1 s)))))
+
+-- the answer to a body as it came from the line
+abbrev pub answerToBody : List ℕ → Answer (ℕ × List ℕ)
+answerToBody s = bodyAnswer (readBody s)

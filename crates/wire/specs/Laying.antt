@@ -1,9 +1,11 @@
 -- What stands on the line for an address and application data, and what laying it down answers. Assumes nothing.
 use mathlib.Core.List.{List, [], _∷_, _++_}
+use mathlib.Core.Option.{none, some}
 use Prim.Native.Nat.{ℕ, _/_, _%_}
 use lib.Dec.{ltb}
 use lib.ListN.{length, drop}
 use Rattle.base.specs.Choice.{choose}
+use Rattle.wire.specs.Answer.{Answer}
 use Rattle.wire.specs.Stuffing.{stuff}
 use Rattle.wire.specs.Body.{reservedAddr, fcsOf}
 use Rattle.wire.specs.declared.laying.Laid.{Laid}
@@ -40,9 +42,13 @@ leftBy Reserved line buf = buf
 leftBy Form line buf = buf
 leftBy Room line buf = buf
 
--- document 01's number of an answer
-abbrev pub laidNumber : Laid → ℕ
-laidNumber (Sent n) = 0
-laidNumber Reserved = 5
-laidNumber Form = 8
-laidNumber Room = 20
+-- document 01's number of each answer and, beside 0, the length on the line
+abbrev pub laidAnswer : Laid → Answer ℕ
+laidAnswer (Sent n) = (0, some n)
+laidAnswer Reserved = (5, none)
+laidAnswer Form = (8, none)
+laidAnswer Room = (20, none)
+
+-- the answer to application data for an address, and a buffer of n bytes
+abbrev pub answerToLaying : ℕ → ℕ → List ℕ → Answer ℕ
+answerToLaying n a xs = laidAnswer (laidOf n a xs)

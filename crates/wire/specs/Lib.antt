@@ -1,3 +1,4 @@
+pub mod Answer
 pub mod Stuffing
 pub mod Body
 pub mod Laying

@@ -1,7 +1,7 @@
 // The body between two flags: address, stuffed application data, stuffed FCS.
 ghost use mathlib.Core.Path.{_≡_};
 ghost use Prim.Native.Nat.{_≤_};
-ghost use Rattle.wire.specs.Body.{verdictNumber, reservedAddr, fcsOf, refusedBody, checkedBody, unstuffedBody, readBody};
+ghost use Rattle.wire.specs.Body.{verdictNumber, bodyAnswer, reservedAddr, fcsOf, refusedBody, checkedBody, unstuffedBody, readBody, answerToBody};
 use crate::stuffing;
 use crate::stuffing::Unstuffed;
 use crc::Poly;
@@ -111,7 +111,7 @@ fn unstuffed_body(addr: u8, u: Unstuffed) -> Body
 
 // A body as it came from the line.
 pub fn read_body(body: &[u8]) -> Body
-    ensures { λ r. ⌜ r ≡ readBody (now (body .entry)) ⌝ }
+    ensures { λ r. ⌜ (r ≡ readBody (now (body .entry))) × (bodyAnswer r ≡ answerToBody (now (body .entry))) ⌝ }
 {
     if body.len() < 7 {
         return refused(Verdict::Length);

@@ -4,7 +4,7 @@ ghost use mathlib.Core.List.{_++_};
 ghost use Prim.Native.Nat.{_≤_};
 ghost use lib.ListN.{length, drop};
 ghost use lib.Seq.{sets};
-ghost use Rattle.wire.specs.Laying.{laidNumber, bodyWith, lineWith, lineOf, laidOf, leftBy};
+ghost use Rattle.wire.specs.Laying.{bodyWith, lineWith, lineOf, laidOf, leftBy, laidAnswer, answerToLaying};
 use crate::body;
 use crate::stuffing;
 use crate::stuffing::FLAG;
@@ -50,7 +50,7 @@ pub enum Laid {
 
 // Document 01's number.
 pub fn laid_number(laid: Laid) -> u8
-    ensures { λ r. ⌜ r ≡ laidNumber laid ⌝ }
+    ensures { λ r. ⌜ r ≡ laidAnswer laid .0 ⌝ }
 {
     match laid {
         Laid::Sent(_) => 0,
@@ -62,7 +62,7 @@ pub fn laid_number(laid: Laid) -> u8
 
 // Application data laid down for an address, or refused with the buffer untouched.
 pub fn lay(buf: &mut [u8], addr: u8, data: &[u8]) -> Laid
-    ensures { λ r. ⌜ (r ≡ laidOf (length (now (buf .entry))) addr (now («data» .entry))) × (now (buf .exit) ≡ leftBy r (lineOf addr (now («data» .entry))) (now (buf .entry))) ⌝ }
+    ensures { λ r. ⌜ (r ≡ laidOf (length (now (buf .entry))) addr (now («data» .entry))) × (now (buf .exit) ≡ leftBy r (lineOf addr (now («data» .entry))) (now (buf .entry))) × (laidAnswer r ≡ answerToLaying (length (now (buf .entry))) addr (now («data» .entry))) ⌝ }
 {
     if body::reserved(addr) {
         return Laid::Reserved;

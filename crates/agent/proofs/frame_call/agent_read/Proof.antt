@@ -34,7 +34,7 @@ unfolding agentRead
 returns-3 c =
     let v = c .before .before .before .before .served in
     rw (← (c .before .before .is-sil4 .ensures), ← (c .before .before .before .before .before .byte-field .ensures), ← (v .ensures), not-false (v .result) (c .before .before .before .if1 .left), c .before .if2 .left)
-    (c .read-app .ensures)
+    (c .read-app .ensures .0)
 
 pub agent-read-spec : {M : Type 1} → statement M
 agent-read-spec =

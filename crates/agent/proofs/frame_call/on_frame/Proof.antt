@@ -12,12 +12,12 @@ read-body-requires c κs = search needs
 
 on-body-requires : tie.Need-on-body-requires
 on-body-requires c κs =
-    let h : c .read-body .result .len ≤ 269 = rw (c .read-body .ensures) (read-most (c .before .before .args .body .now)) in
+    let h : c .read-body .result .len ≤ 269 = rw (c .read-body .ensures .0) (read-most (c .before .before .args .body .now)) in
     omega arith
 
 returns : tie.Need-returns
 unfolding onFrame
-returns c = (rw (← (c .before .read-body .ensures)) (c .on-body .ensures .0), c .on-body .ensures .1)
+returns c = (rw (← (c .before .read-body .ensures .0)) (c .on-body .ensures .0), c .on-body .ensures .1)
 
 pub on-frame-spec : {M : Type 1} → statement M
 on-frame-spec = tie.close (tie.spec read-body-requires on-body-requires returns)

@@ -1,7 +1,5 @@
--- `table::form_of` meets its contract: antt reads the names out of the columns. Assumes nothing.
+-- `table::form_of` meets its contract: antt puts the names into the columns. Assumes nothing.
 use mathlib.Core.Path.{refl}
-use Rattle.frame_fields.specs.Words.{wordIn}
-use native.Mathlib.Omega.{arith}
 use borrow.Author.Needs.{needs}
 use Rattle.frame_fields.proofs.table.form_of.Statement.{statement}
 use Rattle.frame_fields.proofs.table.form_of.Tie as tie
@@ -46,56 +44,43 @@ enum-told-13 : tie.Need-enum-told-13
 enum-told-13 c = search needs
 
 returns : tie.Need-returns
-unfolding wordIn
-returns c = rw (c .before .before .before .before .enum-told .given .1) (refl, refl, omega arith)
+returns c = rw (c .before .before .before .before .enum-told .given .1) refl
 
 returns-2 : tie.Need-returns-2
-unfolding wordIn
-returns-2 c = rw (c .before .before .before .before .enum-told2 .given .1) (refl, refl, omega arith)
+returns-2 c = rw (c .before .before .before .before .enum-told2 .given .1) refl
 
 returns-3 : tie.Need-returns-3
-unfolding wordIn
-returns-3 c = rw (c .before .before .before .before .enum-told3 .given .1) (refl, refl, omega arith)
+returns-3 c = rw (c .before .before .before .before .enum-told3 .given .1) refl
 
 returns-4 : tie.Need-returns-4
-unfolding wordIn
-returns-4 c = rw (c .before .before .before .before .enum-told4 .given .1) (refl, refl, omega arith)
+returns-4 c = rw (c .before .before .before .before .enum-told4 .given .1) refl
 
 returns-5 : tie.Need-returns-5
-unfolding wordIn
-returns-5 c = rw (c .before .before .before .before .enum-told5 .given .1) (refl, refl, omega arith)
+returns-5 c = rw (c .before .before .before .before .enum-told5 .given .1) refl
 
 returns-6 : tie.Need-returns-6
-unfolding wordIn
-returns-6 c = rw (c .before .before .before .before .enum-told6 .given .1) (refl, refl, omega arith)
+returns-6 c = rw (c .before .before .before .before .enum-told6 .given .1) refl
 
 returns-7 : tie.Need-returns-7
-unfolding wordIn
-returns-7 c = rw (c .before .before .before .before .enum-told7 .given .1) (refl, refl, omega arith)
+returns-7 c = rw (c .before .before .before .before .enum-told7 .given .1) refl
 
 returns-8 : tie.Need-returns-8
-unfolding wordIn
-returns-8 c = rw (c .before .before .before .before .enum-told8 .given .1) (refl, refl, omega arith)
+returns-8 c = rw (c .before .before .before .before .enum-told8 .given .1) refl
 
 returns-9 : tie.Need-returns-9
-unfolding wordIn
-returns-9 c = rw (c .before .before .before .before .enum-told9 .given .1) (refl, refl, omega arith)
+returns-9 c = rw (c .before .before .before .before .enum-told9 .given .1) refl
 
 returns-10 : tie.Need-returns-10
-unfolding wordIn
-returns-10 c = rw (c .before .before .before .before .enum-told10 .given .1) (refl, refl, omega arith)
+returns-10 c = rw (c .before .before .before .before .enum-told10 .given .1) refl
 
 returns-11 : tie.Need-returns-11
-unfolding wordIn
-returns-11 c = rw (c .before .before .before .before .enum-told11 .given .1) (refl, refl, omega arith)
+returns-11 c = rw (c .before .before .before .before .enum-told11 .given .1) refl
 
 returns-12 : tie.Need-returns-12
-unfolding wordIn
-returns-12 c = rw (c .before .before .before .before .enum-told12 .given .1) (refl, refl, omega arith)
+returns-12 c = rw (c .before .before .before .before .enum-told12 .given .1) refl
 
 returns-13 : tie.Need-returns-13
-unfolding wordIn
-returns-13 c = rw (c .before .before .before .before .enum-told13 .given .1) (refl, refl, omega arith)
+returns-13 c = rw (c .before .before .before .before .enum-told13 .given .1) refl
 
 pub form-of-spec : {M : Type 1} → statement M
 form-of-spec =

@@ -3,7 +3,8 @@ use mathlib.Core.Path.{ap, _∙_}
 use native.Mathlib.Omega.{arith}
 use borrow.Author.Needs.{needs}
 use Rattle.wire.proofs.BodyLength.{read-most}
-use Rattle.frames.specs.Reading.{receivedBody, readFrame}
+use Rattle.frames.specs.Reading.{receivedBody, readFrame, receivedAnswer}
+use Rattle.frames.proofs.Receiving.{passed-on}
 use Rattle.frames.proofs.reading.read_frame.Statement.{statement}
 use Rattle.frames.proofs.reading.read_frame.Tie as tie
 
@@ -11,11 +12,13 @@ read-body-requires : tie.Need-read-body-requires
 read-body-requires c κs = search needs
 
 received-body-requires : tie.Need-received-body-requires
-received-body-requires c κs = rw (c .read-body .ensures) (omega (arith, read-most (c .before .before .args .body .now)))
+received-body-requires c κs = rw (c .read-body .ensures .0) (omega (arith, read-most (c .before .before .args .body .now)))
 
 returns : tie.Need-returns
 unfolding readFrame
-returns c = c .received-body .ensures ∙ ap receivedBody (c .before .read-body .ensures)
+returns c =
+    let e = c .received-body .ensures ∙ ap receivedBody (c .before .read-body .ensures .0) in
+    (e, ap receivedAnswer e ∙ passed-on (c .before .before .before .args .body .now))
 
 pub read-frame-spec : {M : Type 1} → statement M
 read-frame-spec = tie.close (tie.spec read-body-requires received-body-requires returns)

@@ -44,16 +44,16 @@ refused-requires-3 : tie.Need-refused-requires-3
 refused-requires-3 c κs = search needs
 
 returns : tie.Need-returns
-returns c = rw (← (c .before .before .before .read-app .ensures), c .before .f .given .1)
+returns c = rw (← (c .before .before .before .read-app .ensures .0), c .before .f .given .1)
 
 returns-2 : tie.Need-returns-2
-returns-2 c = rw (← (c .before .before .before .read-app .ensures), c .before .enum-told .given .1) (c .refused .ensures)
+returns-2 c = rw (← (c .before .before .before .read-app .ensures .0), c .before .enum-told .given .1) (c .refused .ensures)
 
 returns-3 : tie.Need-returns-3
-returns-3 c = rw (← (c .before .before .before .read-app .ensures), c .before .enum-told2 .given .1) (c .refused2 .ensures)
+returns-3 c = rw (← (c .before .before .before .read-app .ensures .0), c .before .enum-told2 .given .1) (c .refused2 .ensures)
 
 returns-4 : tie.Need-returns-4
-returns-4 c = rw (← (c .before .before .before .read-app .ensures), c .before .enum-told3 .given .1) (c .refused3 .ensures)
+returns-4 c = rw (← (c .before .before .before .read-app .ensures .0), c .before .enum-told3 .given .1) (c .refused3 .ensures)
 
 pub received-app-spec : {M : Type 1} → statement M
 received-app-spec =

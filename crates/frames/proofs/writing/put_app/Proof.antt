@@ -9,6 +9,7 @@ use lib.Seq.{sets, length-take-le, length-sets}
 use borrow.Author.Needs.{needs}
 use Rattle.frames.specs.Kinds.{tailOf, isSafe, appOf}
 use Rattle.frames.specs.Putting.{fieldsIn}
+use Rattle.frames.proofs.Held.{head-held, tail-held}
 use Rattle.frames.proofs.Parts.{plainApp}
 use Rattle.frames.proofs.AppRuns.{app-plain, safe-length, runs-fit, runs-end, runs-laid, seal-laid}
 use Rattle.frames.proofs.writing.put_app.Statement.{statement}
@@ -22,7 +23,8 @@ put-fields-requires c κs =
     let h = c .head-of in
     let s = c .before .before .before .before in
     let a = s .args in
-    (h .ensures .1, omega (arith, runs-fit (a .f) (a .«data» .now) (fieldsIn (h .result)) (tailOf (a .f)) (h .ensures .0) refl, s .pre))
+    let hs = head-held (a .f) (h .result) (h .ensures) in
+    (hs .1, omega (arith, runs-fit (a .f) (a .«data» .now) (fieldsIn (h .result)) (tailOf (a .f)) (hs .0) refl, s .pre))
 
 copy-at-requires : tie.Need-copy-at-requires
 copy-at-requires c κs =
@@ -30,7 +32,8 @@ copy-at-requires c κs =
     let h = c .before .before .before .before .head-of in
     let s = c .before .before .before .before .before .before .before .before in
     let a = s .args in
-    omega (arith, p .ensures .0, p .kept .0, runs-fit (a .f) (a .«data» .now) (fieldsIn (h .result)) (tailOf (a .f)) (h .ensures .0) refl, s .pre)
+    let hs = head-held (a .f) (h .result) (h .ensures) in
+    omega (arith, p .ensures .0, p .kept .0, runs-fit (a .f) (a .«data» .now) (fieldsIn (h .result)) (tailOf (a .f)) (hs .0) refl, s .pre)
 
 tail-of-requires : tie.Need-tail-of-requires
 tail-of-requires c κs = search needs
@@ -42,15 +45,17 @@ put-fields-requires-2 c κs =
     let r = c .before .before .before .before .before .before .before .before in
     let h = r .before .head-of in
     let s = r .before .before .before .before .before in
-    let a = s .args in (
-      t .ensures .1,
+    let a = s .args in
+    let hs = head-held (a .f) (h .result) (h .ensures) in
+    let ts = tail-held (a .f) (t .result) (t .ensures) in (
+      ts .1,
       omega (
         arith,
         k .ensures .0,
         k .kept .1 .0,
         r .put-fields .ensures .0,
         r .put-fields .kept .0,
-        runs-fit (a .f) (a .«data» .now) (fieldsIn (h .result)) (fieldsIn (t .result)) (h .ensures .0) (t .ensures .0),
+        runs-fit (a .f) (a .«data» .now) (fieldsIn (h .result)) (fieldsIn (t .result)) (hs .0) (ts .0),
         s .pre,
       ),
     )
@@ -68,10 +73,12 @@ runs c =
     let h = r .before .head-of in
     let a = r .before .before .before .before .before .args in
     let xs = a .«data» .now in
+    let hs = head-held (a .f) (h .result) (h .ensures) in
+    let ts = tail-held (a .f) (t .result) (t .ensures) in
     let ks = k .copy-at .ensures in
     let rs = r .put-fields .ensures in (
-      runs-end (a .f) xs (fieldsIn (h .result)) (fieldsIn (t .result)) (h .ensures .0) (t .ensures .0) _ _ _ (rs .0) (ks .0) (p .ensures .0),
-      runs-laid (a .f) xs (fieldsIn (h .result)) (fieldsIn (t .result)) (h .ensures .0) (t .ensures .0) _ _ _ _ _ _ (rs .0) (ks .0) (rs .1) (ks .1) (p .ensures .1),
+      runs-end (a .f) xs (fieldsIn (h .result)) (fieldsIn (t .result)) (hs .0) (ts .0) _ _ _ (rs .0) (ks .0) (p .ensures .0),
+      runs-laid (a .f) xs (fieldsIn (h .result)) (fieldsIn (t .result)) (hs .0) (ts .0) _ _ _ _ _ _ (rs .0) (ks .0) (rs .1) (ks .1) (p .ensures .1),
     )
 
 is-safe-requires : tie.Need-is-safe-requires

@@ -10,7 +10,8 @@ use lib.Seq.{length-take-le}
 use borrow.Author.Tests.{not-true, not-false}
 use borrow.Author.Needs.{needs}
 use Rattle.wire.specs.Body.{reservedAddr}
-use Rattle.wire.specs.Laying.{lineOf, laidOf, leftBy}
+use Rattle.wire.specs.Laying.{lineOf, laidOf, leftBy, laidAnswer}
+use Rattle.wire.proofs.AnswerLaws.{beside-answer}
 use Rattle.frames.specs.Kinds.{appOf}
 use Rattle.frames.specs.Sized.{Sized}
 use Rattle.frames.specs.Writing.{fits}
@@ -24,7 +25,7 @@ reserved-requires : tie.Need-reserved-requires
 reserved-requires c κs = search needs
 
 returns : tie.Need-returns
-returns c = (written-reserved _ _ _ _ (sym (c .before .reserved .ensures) ∙ c .if1 .taken), refl)
+returns c = beside-answer laidAnswer (written-reserved _ _ _ _ (sym (c .before .reserved .ensures) ∙ c .if1 .taken)) refl
 
 -- behind the first test the address is not reserved
 free : (c : tie.Else1) → reservedAddr (c .before .before .before .before .args .addr) ≡ false
@@ -34,7 +35,9 @@ fits-data-requires : tie.Need-fits-data-requires
 fits-data-requires c κs = search needs
 
 returns-2 : tie.Need-returns-2
-returns-2 c = (written-form _ _ _ _ (free (c .before .before)) (sym (c .before .fits-data .ensures) ∙ not-true (c .before .fits-data .result) (c .if2 .taken)), refl)
+returns-2 c =
+    beside-answer laidAnswer
+    (written-form _ _ _ _ (free (c .before .before)) (sym (c .before .fits-data .ensures) ∙ not-true (c .before .fits-data .result) (c .if2 .taken))) refl
 
 -- behind the second the frame fits, and its application data are of the size of a body
 fit : (c : tie.Else2)
@@ -81,10 +84,10 @@ returns-3 c =
     let t = c .before .before .before .before .before .before .before .before in
     let a = t .before .before .before .before .before .before .args in
     let ys : List ℕ = appOf (a .f) (a .«data» .now) in
-    let e = stored-back _ _ ys _ (p .ensures .0) (p .ensures .1) (most t) in (
-      l .ensures .0 ∙ ap (laidOf (length (a .buf .now)) (a .addr)) e ∙ written-laid _ _ _ _ (free (t .before .before)) (fit t) (sized t),
-      l .ensures .1 ∙ ap (λ (zs : List ℕ). leftBy (l .result) (lineOf (a .addr) zs) (a .buf .now)) e,
-    )
+    let e = stored-back _ _ ys _ (p .ensures .0) (p .ensures .1) (most t) in
+    beside-answer laidAnswer
+    (l .ensures .0 ∙ ap (laidOf (length (a .buf .now)) (a .addr)) e ∙ written-laid _ _ _ _ (free (t .before .before)) (fit t) (sized t))
+    (l .ensures .1 ∙ ap (λ (zs : List ℕ). leftBy (l .result) (lineOf (a .addr) zs) (a .buf .now)) e)
 
 pub write-frame-spec : {M : Type 1} → statement M
 write-frame-spec =

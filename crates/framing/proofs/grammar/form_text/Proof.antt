@@ -1,6 +1,7 @@
 -- `grammar::form_text` meets its contract: what each piece adds, and the form of the kind. Assumes nothing.
 use mathlib.Core.Path.{sym, _∙_}
 use Rattle.framing.proofs.GrammarLaws.{form-data, form-plain}
+use Rattle.frame_fields.proofs.FormLaws.{form-holds}
 use borrow.Author.Needs.{needs}
 use Rattle.framing.proofs.grammar.form_text.Statement.{statement}
 use Rattle.framing.proofs.grammar.form_text.Tie as tie
@@ -18,7 +19,7 @@ add-word-requires : tie.Need-add-word-requires
 add-word-requires c κs = search needs
 
 add-form-fields-requires : tie.Need-add-form-fields-requires
-add-form-fields-requires c κs = search needs
+add-form-fields-requires c κs = form-holds (c .before .before .before .before .before .args .kind) _ (c .before .before .before .before .form-of .ensures) .2
 
 has-data-requires : tie.Need-has-data-requires
 has-data-requires c κs = search needs
@@ -31,12 +32,12 @@ add-requires c κs = search needs
 
 returns : tie.Need-returns
 returns c =
-    rw (c .add .ensures, c .before .before .before .before .add-form-fields .ensures, c .before .before .before .before .before .add-word .ensures, c .before .before .before .before .before .before .before .no-text .ensures, c .before .before .before .before .before .before .before .before .before .form-of .ensures .0, c .before .before .before .before .before .before .before .before .before .form-of .ensures .1)
+    rw (c .add .ensures, c .before .before .before .before .add-form-fields .ensures, c .before .before .before .before .before .add-word .ensures, c .before .before .before .before .before .before .before .no-text .ensures, form-holds (c .before .before .before .before .before .before .before .before .before .before .args .kind) _ (c .before .before .before .before .before .before .before .before .before .form-of .ensures) .0, form-holds (c .before .before .before .before .before .before .before .before .before .before .args .kind) _ (c .before .before .before .before .before .before .before .before .before .form-of .ensures) .1)
     (form-data (c .before .before .before .before .before .before .before .before .before .before .args .kind) (sym (c .before .before .before .has-data .ensures) ∙ c .before .before .if1 .taken))
 
 returns-2 : tie.Need-returns-2
 returns-2 c =
-    rw (c .before .before .add-form-fields .ensures, c .before .before .before .add-word .ensures, c .before .before .before .before .before .no-text .ensures, c .before .before .before .before .before .before .before .form-of .ensures .0, c .before .before .before .before .before .before .before .form-of .ensures .1)
+    rw (c .before .before .add-form-fields .ensures, c .before .before .before .add-word .ensures, c .before .before .before .before .before .no-text .ensures, form-holds (c .before .before .before .before .before .before .before .before .args .kind) _ (c .before .before .before .before .before .before .before .form-of .ensures) .0, form-holds (c .before .before .before .before .before .before .before .before .args .kind) _ (c .before .before .before .before .before .before .before .form-of .ensures) .1)
     (form-plain (c .before .before .before .before .before .before .before .before .args .kind) (sym (c .before .has-data .ensures) ∙ c .if1 .left))
 
 pub form-text-spec : {M : Type 1} → statement M

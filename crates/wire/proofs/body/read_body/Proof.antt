@@ -6,7 +6,8 @@ use native.Mathlib.Nat.{le-of-eq}
 use lib.ListN.{length, drop, getD, length-drop}
 use lib.Seq.{take-all}
 use Rattle.wire.specs.Stuffing.{unstuff, plainOf}
-use Rattle.wire.specs.Body.{unstuffedBody}
+use Rattle.wire.specs.Body.{bodyAnswer, unstuffedBody}
+use Rattle.wire.proofs.AnswerLaws.{with-answer}
 use Rattle.wire.proofs.BodyLaws.{body-short, body-long, body-fits}
 use borrow.Author.Needs.{needs}
 use Rattle.wire.proofs.body.read_body.Statement.{statement}
@@ -16,13 +17,13 @@ refused-requires : tie.Need-refused-requires
 refused-requires c κs = search needs
 
 returns : tie.Need-returns
-returns c = c .refused .ensures ∙ body-short _ (c .before .if1 .taken)
+returns c = with-answer bodyAnswer (c .refused .ensures ∙ body-short _ (c .before .if1 .taken))
 
 refused-requires-2 : tie.Need-refused-requires-2
 refused-requires-2 c κs = search needs
 
 returns-2 : tie.Need-returns-2
-returns-2 c = c .refused2 .ensures ∙ body-long _ (c .before .before .if1 .left) (c .before .if2 .taken)
+returns-2 c = with-answer bodyAnswer (c .refused2 .ensures ∙ body-long _ (c .before .before .if1 .left) (c .before .if2 .taken))
 
 shared-slice-read-addr : tie.Need-shared-slice-read-addr
 shared-slice-read-addr c = search needs
@@ -45,9 +46,10 @@ unstuffed-body-requires c κs = search needs
 returns-3 : tie.Need-returns-3
 returns-3 c =
     let s = c .before .before .before .before .before .before .before .args .body .now in
-    c .unstuffed-body .ensures
+    with-answer bodyAnswer
+    (c .unstuffed-body .ensures
     ∙ ap (unstuffedBody (getD s 0 0)) (c .before .unstuff-all .ensures ∙ ap (λ (l : List ℕ). plainOf (unstuff l)) (take-all (length s - 1) (drop 1 s) (le-of-eq (length-drop 1 s))))
-    ∙ body-fits s (search needs) (search needs)
+    ∙ body-fits s (search needs) (search needs))
 
 pub read-body-spec : {M : Type 1} → statement M
 read-body-spec =

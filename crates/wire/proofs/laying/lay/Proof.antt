@@ -5,7 +5,8 @@ use Prim.Native.Nat.{ℕ}
 use lib.ListN.{length}
 use borrow.Author.Needs.{needs}
 use Rattle.wire.specs.Body.{reservedAddr}
-use Rattle.wire.specs.Laying.{lineWith, lineOf}
+use Rattle.wire.specs.Laying.{lineWith, lineOf, laidAnswer}
+use Rattle.wire.proofs.AnswerLaws.{beside-answer}
 use Rattle.wire.proofs.LayingLaws.{laid-reserved, laid-short, laid-long, laid-room, laid-sent}
 use Rattle.wire.proofs.laying.lay.Statement.{statement}
 use Rattle.wire.proofs.laying.lay.Tie as tie
@@ -14,17 +15,17 @@ reserved-requires : tie.Need-reserved-requires
 reserved-requires c κs = search needs
 
 returns : tie.Need-returns
-returns c = (laid-reserved _ _ _ (sym (c .before .reserved .ensures) ∙ c .if1 .taken), refl)
+returns c = beside-answer laidAnswer (laid-reserved _ _ _ (sym (c .before .reserved .ensures) ∙ c .if1 .taken)) refl
 
 -- behind the first test the address is not reserved
 free : (c : tie.Else1) → reservedAddr (c .before .before .before .before .args .addr) ≡ false
 free c = sym (c .before .reserved .ensures) ∙ c .if1 .left
 
 returns-2 : tie.Need-returns-2
-returns-2 c = (laid-short _ _ _ (free (c .before)) (c .if2 .taken), refl)
+returns-2 c = beside-answer laidAnswer (laid-short _ _ _ (free (c .before)) (c .if2 .taken)) refl
 
 returns-3 : tie.Need-returns-3
-returns-3 c = (laid-long _ _ _ (free (c .before .before)) (c .before .if2 .left) (c .if3 .taken), refl)
+returns-3 c = beside-answer laidAnswer (laid-long _ _ _ (free (c .before .before)) (c .before .if2 .left) (c .if3 .taken)) refl
 
 fcs-requires : tie.Need-fcs-requires
 fcs-requires c κs = search needs
@@ -43,7 +44,7 @@ line-is c =
 returns-4 : tie.Need-returns-4
 returns-4 c =
     let t = c .before .before .before in
-    (laid-room _ _ _ (free (t .before .before)) (t .before .if2 .left) (t .if3 .left) (rw (line-is (c .before)) at (c .if4 .taken)), refl)
+    beside-answer laidAnswer (laid-room _ _ _ (free (t .before .before)) (t .before .if2 .left) (t .if3 .left) (rw (line-is (c .before)) at (c .if4 .taken))) refl
 
 lay-line-requires : tie.Need-lay-line-requires
 lay-line-requires c κs = search needs
@@ -56,10 +57,10 @@ returns-5 c =
     let l = c .before .before .lay-line .ensures in
     let r = c .before .before .before .before in
     let f = r .before .before .fcs .ensures in
-    let t = r .before .before .before in (
-      rw (l .0, f) (laid-sent _ _ _ (free (t .before .before)) (t .before .if2 .left) (t .if3 .left) (rw (line-is (r .before)) at (r .if4 .left))),
-      rw (l .0, ← f) (l .1),
-    )
+    let t = r .before .before .before in
+    beside-answer laidAnswer
+    (rw (l .0, f) (laid-sent _ _ _ (free (t .before .before)) (t .before .if2 .left) (t .if3 .left) (rw (line-is (r .before)) at (r .if4 .left))))
+    (rw (l .0, ← f) (l .1))
 
 pub lay-spec : {M : Type 1} → statement M
 lay-spec =
