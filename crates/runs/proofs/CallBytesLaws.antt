@@ -53,11 +53,11 @@ same-call (frame port body room) = refl
 -- ---- a step
 
 -- where no call stands the bytes are passed over, to the end
-pub passed-over : (s : List ℕ) (at room : ℕ) (a : Agent) → at < length s
+pub passed-over : (s : List ℕ) (at room : ℕ) (a : Agent) (answer : ℕ) (b : Agent) (next : ℕ) → next ≡ length s → at < length s
     → ((x : Call) (rest : List ℕ) → drop at s ≡ callBytes x ++ rest → Makable room x → ⊥)
-    → Stepped s at room a 0 a (length s)
-passed-over s at room a h none = record {
-  further = h;
+    → Stepped s at room a answer b next
+passed-over s at room a answer b next e h none = record {
+  further = omega arith;
   within = omega arith;
   continues = λ x rest e m. absurd (none x rest e m);
   comes-to = λ x rest e m. absurd (none x rest e m);
