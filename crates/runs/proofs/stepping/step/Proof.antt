@@ -5,6 +5,7 @@ use native.Mathlib.Omega.{arith}
 use mathlib.Core.Path.{sym, _∙_}
 use Prim.Native.Nat.{_+_}
 use lib.Seq.{length-take-le}
+use Rattle.runs.specs.CallBytes.{headingSize}
 use Rattle.runs.proofs.CallBytesLaws.{passed-over, left-is, length-read, room-enough, makes, comes, part-is}
 use Rattle.runs.proofs.stepping.step.Statement.{statement}
 use Rattle.runs.proofs.stepping.step.Tie as tie
@@ -112,7 +113,7 @@ returns-4 c =
       continues = λ x rest e m.
           makes _ _ _ (start .pre) (g .1 .0 .0) (g .1 .1 .1 .0 .0) x rest e m _ _ _ _ len _ _ _
           (b .byte-field .ensures) (b2 .byte-field2 .ensures) (length-take-le (f .field .result) (start .args .reply .now) (if3 .if3 .left) ∙ f .field .ensures .0)
-          (f2 .field2 .ensures .0) (part-is (start .args .at + 18) len (start .args .s .now)) (k .call .ensures);
+          (f2 .field2 .ensures .0) (part-is (start .args .at + headingSize) len (start .args .s .now)) (k .call .ensures);
       comes-to = λ x rest e m. comes _ _ _ (start .pre) (g .1 .0 .0) (g .1 .1 .1 .0 .0) x rest e m len (f2 .field2 .ensures .0);
     }
 
