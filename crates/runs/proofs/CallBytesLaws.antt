@@ -17,7 +17,7 @@ use Rattle.rules.specs.Good.{BytesCall}
 use Rattle.rules.specs.declared.Agent.{Agent}
 use Rattle.demand3.specs.Claim.{BytesCalls}
 use Rattle.demand3.specs.Reached.{Continues}
-use Rattle.runs.specs.CallBytes.{kindOf, portOf, roomOf, bytesIn, callOf, heading, callBytes, listBytes, Makable, Stepped}
+use Rattle.runs.specs.CallBytes.{kindOf, portOf, roomOf, bytesIn, callOf, heading, headingSize, callBytes, listBytes, Makable, Stepped}
 
 -- no list is left out: the bytes of calls whose bodies and inputs are bytes are bytes
 bytes-in : (x : Call) → BytesCall x → Bytes (bytesIn x)
@@ -53,11 +53,11 @@ same-call (frame port body room) = refl
 -- ---- a step
 
 -- where no call stands the bytes are passed over, to the end
-pub passed-over : (s : List ℕ) (at room : ℕ) (a : Agent) → at < length s
+pub passed-over : (s : List ℕ) (at room : ℕ) (a : Agent) (answer : ℕ) (b : Agent) (next : ℕ) → next ≡ length s → at < length s
     → ((x : Call) (rest : List ℕ) → drop at s ≡ callBytes x ++ rest → Makable room x → ⊥)
-    → Stepped s at room a 0 a (length s)
-passed-over s at room a h none = record {
-  further = h;
+    → Stepped s at room a answer b next
+passed-over s at room a answer b next e h none = record {
+  further = omega arith;
   within = omega arith;
   continues = λ x rest e m. absurd (none x rest e m);
   comes-to = λ x rest e m. absurd (none x rest e m);
@@ -77,11 +77,11 @@ module _ (s : List ℕ) (at room : ℕ) (inside : at < length s) (fits : length 
   apart : drop at s ≡ laid (heading x) ++ (bytesIn x ++ rest)
   apart = stands ∙ append-assoc (laid (heading x)) (bytesIn x) rest
 
-  head-length : length (laid (heading x)) ≡ 18
+  head-length : length (laid (heading x)) ≡ headingSize
   head-length = length-laid (heading x)
 
   -- how much is left at the place
-  pub left-is : length s - at ≡ 18 + (length (bytesIn x) + length rest)
+  pub left-is : length s - at ≡ headingSize + (length (bytesIn x) + length rest)
   left-is =
       sym (length-drop at s) ∙ ap length apart ∙ length-append (laid (heading x)) (bytesIn x ++ rest)
       ∙ ap₂ (λ (m n : ℕ). m + n) head-length (length-append (bytesIn x) rest)
@@ -117,15 +117,15 @@ module _ (s : List ℕ) (at room : ℕ) (inside : at < length s) (fits : length 
   pub room-enough : numberAt s (at + 2) 8 ≤ room
   room-enough = omega (arith, room-read, makable .1)
 
-  behind-is : drop (at + 18) s ≡ bytesIn x ++ rest
-  behind-is = sym (drop-drop 18 at s) ∙ ap (drop 18) apart ∙ drop-at (laid (heading x)) (bytesIn x ++ rest) 18 head-length
+  after-heading : drop (at + headingSize) s ≡ bytesIn x ++ rest
+  after-heading = sym (drop-drop headingSize at s) ∙ ap (drop headingSize) apart ∙ drop-at (laid (heading x)) (bytesIn x ++ rest) headingSize head-length
 
   -- the call that the code makes of what it read is the one that was laid down
   pub makes : (a : Agent) (k p m len answer : ℕ) (bytes : List ℕ) (b : Agent) → k ≡ numberAt s at 1 → p ≡ numberAt s (at + 1) 1
-      → m ≡ numberAt s (at + 2) 8 → len ≡ numberAt s (at + 10) 8 → bytes ≡ take len (drop (at + 18) s)
+      → m ≡ numberAt s (at + 2) 8 → len ≡ numberAt s (at + 10) 8 → bytes ≡ take len (drop (at + headingSize) s)
       → Continues a (callOf k p bytes m) answer b → Continues a x answer b
   makes a k p m len answer bytes b ks ps ms ls bs c =
-      let same : bytes ≡ bytesIn x = bs ∙ ap₂ take (ls ∙ length-read) behind-is ∙ take-at (bytesIn x) rest (length (bytesIn x)) refl in
+      let same : bytes ≡ bytesIn x = bs ∙ ap₂ take (ls ∙ length-read) after-heading ∙ take-at (bytesIn x) rest (length (bytesIn x)) refl in
       subst (λ (y : Call). Continues a y answer b)
       (ap (λ (i : ℕ). callOf i p bytes m) (ks ∙ kind-read)
       ∙ ap (λ (i : ℕ). callOf (kindOf x) i bytes m) (ps ∙ port-read)
@@ -133,7 +133,7 @@ module _ (s : List ℕ) (at room : ℕ) (inside : at < length s) (fits : length 
       ∙ ap (λ (i : ℕ). callOf (kindOf x) (portOf x) (bytesIn x) i) (ms ∙ room-read)
       ∙ same-call x) c
 
-  pub comes : (len : ℕ) → len ≡ numberAt s (at + 10) 8 → drop (at + 18 + len) s ≡ rest
+  pub comes : (len : ℕ) → len ≡ numberAt s (at + 10) 8 → drop (at + headingSize + len) s ≡ rest
   comes len ls =
-      sym (drop-drop len (at + 18) s) ∙ ap₂ drop (ls ∙ length-read) behind-is
+      sym (drop-drop len (at + headingSize) s) ∙ ap₂ drop (ls ∙ length-read) after-heading
       ∙ drop-at (bytesIn x) rest (length (bytesIn x)) refl

@@ -22,7 +22,7 @@ abbrev pub callsOf : List Finished → List Call
 callsOf [] = []
 callsOf (d ∷ ds) = d .call ∷ callsOf ds
 
--- the agent at the end, the history, and the records behind the one at power-up
+-- the agent at the end, the history, and the records after the one at power-up
 abbrev pub lastOf : Agent → List Finished → Agent
 lastOf a [] = a
 lastOf a (d ∷ ds) = lastOf (d .agent) ds
@@ -68,8 +68,8 @@ module _ (n : ℕ) (a : Agent) (full : length (a .regs) ≡ 256) (rest : List �
   seen-back : seenIn (recordOf n a ++ rest) ≡ seen a
   seen-back = ap (seenOf (a .mode)) (take-at (a .regs) rest 256 full)
 
-  behind-record : drop recordSize (recordOf n a ++ rest) ≡ rest
-  behind-record = drop-at (recordOf n a) rest recordSize record-length
+  after-record : drop recordSize (recordOf n a ++ rest) ≡ rest
+  after-record = drop-at (recordOf n a) rest recordSize record-length
 
 pub logged-is : (ds : List Finished) (a : Agent) (h : History) (n : ℕ) (rest : List ℕ) → length (a .regs) ≡ 256
     → logged h (callsOf ds) (recordOf n a ++ (recordsOf ds ++ rest)) ≡ historyOf a h ds
@@ -82,7 +82,7 @@ logged-is (d ∷ ds) a h n rest full =
     let tail : List ℕ = recordsOf ds ++ rest in
     let l : List ℕ = recordOf n a ++ ((recordOf m b ++ recordsOf ds) ++ rest) in
     let next : drop recordSize l ≡ recordOf m b ++ tail =
-    behind-record n a full ((recordOf m b ++ recordsOf ds) ++ rest) ∙ append-assoc (recordOf m b) (recordsOf ds) rest in
+    after-record n a full ((recordOf m b ++ recordsOf ds) ++ rest) ∙ append-assoc (recordOf m b) (recordsOf ds) rest in
     let answer : getD l recordSize 0 ≡ m = at-drop l recordSize ∙ ap (λ (k : List ℕ). getD k 0 0) next in
     let before : seenIn l ≡ seen a = seen-back n a full ((recordOf m b ++ recordsOf ds) ++ rest) in
     let behind : seenIn (drop recordSize l) ≡ seen b = ap seenIn next ∙ seen-back m b (d .full) tail in
@@ -94,7 +94,7 @@ logged-is (d ∷ ds) a h n rest full =
 
 -- ---- written
 
--- a record behind what stands
+-- a record after what stands
 pub one-more : (log : List ℕ) (to n : ℕ) (a : Agent) → length (a .regs) ≡ 256 → to + recordSize ≤ length log
     → take (to + recordSize) (sets log to (recordOf n a)) ≡ take to log ++ recordOf n a
 one-more log to n a full h =

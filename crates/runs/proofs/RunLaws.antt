@@ -50,7 +50,7 @@ module _ (start : Agent) (room : ℕ) (calls : List Call) (s : List ℕ) (at to 
   none-left : at < length s → drop at s ≡ [] → ⊥
   none-left h e = omega (arith, sym (length-drop at s) ∙ ap length e)
 
-  -- what the code returned for the next call, behind what is done
+  -- what the code returned for the next call, after what is done
   module _ (d : Finished) where
     reached-on : Continues a (d .call) (d .answer) (d .agent) → Reached (historyOf start powerOn (p .done ++ (d ∷ []))) (d .agent)
     reached-on c =

@@ -39,6 +39,9 @@ callOf kind port bytes room = choose (eqb kind 0) tick (choose (eqb kind 1) (inp
 abbrev pub heading : Call → List (ℕ × ℕ)
 heading x = (1, kindOf x) ∷ (1, portOf x) ∷ (8, roomOf x) ∷ (8, length (bytesIn x)) ∷ []
 
+abbrev pub headingSize : ℕ
+headingSize = 18
+
 abbrev pub callBytes : Call → List ℕ
 callBytes x = laid (heading x) ++ bytesIn x
 
@@ -54,7 +57,7 @@ abbrev pub AllMakable : ℕ → List Call → Type 0
 AllMakable room [] = Unit {0}
 AllMakable room (x ∷ xs) = Makable room x × AllMakable room xs
 
--- a step along the bytes s: it makes the call that stands at the place, and comes to the place behind it
+-- a step along the bytes s: it makes the call that stands at the place, and comes to the place after it
 pub record Stepped (s : List ℕ) (at room : ℕ) (a : Agent) (answer : ℕ) (b : Agent) (next : ℕ) : Type 0 where
   pub further : at < next
   pub within : next ≤ length s

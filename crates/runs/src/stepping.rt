@@ -1,4 +1,5 @@
 // The call that stands at a place of the bytes.
+ghost use mathlib.Core.Path.{_≡_};
 ghost use Prim.Native.Nat.{_<_};
 ghost use lib.ListN.{length};
 ghost use Rattle.demand3.specs.Reached.{Continues};
@@ -36,6 +37,17 @@ pub struct Made {
 // The bytes before a call's own: kind, port, room (8), length (8).
 const HEADING: usize = 18;
 
+// Nothing is called: the agent as it is, and the place after the last byte.
+fn no_call(a: Agent, end: usize) -> Made
+    ensures { λ r. ⌜ (r .answer ≡ 0) × (r .agent ≡ a) × (r .next ≡ end) ⌝ }
+{
+    Made {
+        answer: 0,
+        agent: a,
+        next: end,
+    }
+}
+
 // The call at a place, with the part of the reply buffer that it has room for. What is no call is passed over, to the end.
 pub fn step(a: Agent, s: &[u8], at: usize, reply: &mut [u8]) -> Made
     requires { ⌜ at < length (now s) ⌝ }
@@ -47,25 +59,13 @@ pub fn step(a: Agent, s: &[u8], at: usize, reply: &mut [u8]) -> Made
     let room = field(s, at + 2, 8) as usize;
     let len = field(s, at + 10, 8) as usize;
     if left < HEADING {
-        return Made {
-            answer: 0,
-            agent: a,
-            next: s.len(),
-        };
+        return no_call(a, s.len());
     }
     if left - HEADING < len {
-        return Made {
-            answer: 0,
-            agent: a,
-            next: s.len(),
-        };
+        return no_call(a, s.len());
     }
     if reply.len() < room {
-        return Made {
-            answer: 0,
-            agent: a,
-            next: s.len(),
-        };
+        return no_call(a, s.len());
     }
     let from = at + HEADING;
     let to = from + len;

@@ -1,9 +1,11 @@
--- `stepping::step` meets its contract. Assumes nothing.
+-- `stepping::step` meets its contract: where a test fails no call stands at the place; else the call that is made is the
+-- one laid down there. Assumes nothing.
 use borrow.Author.Needs.{needs}
 use native.Mathlib.Omega.{arith}
 use mathlib.Core.Path.{sym, _∙_}
 use Prim.Native.Nat.{_+_}
 use lib.Seq.{length-take-le}
+use Rattle.runs.specs.CallBytes.{headingSize}
 use Rattle.runs.proofs.CallBytesLaws.{passed-over, left-is, length-read, room-enough, makes, comes, part-is}
 use Rattle.runs.proofs.stepping.step.Statement.{statement}
 use Rattle.runs.proofs.stepping.step.Tie as tie
@@ -32,25 +34,40 @@ add-field-2 c = search needs
 field-requires-2 : tie.Need-field-requires-2
 field-requires-2 c κs = search needs
 
+no-call-requires : tie.Need-no-call-requires
+no-call-requires c κs = search needs
+
 returns : tie.Need-returns
 returns c =
-    let start = c .before .before .before .before .before .before .before in
+    let k = c .before in
+    let start = k .before .before .before .before .before .before .before in
     let g = start .good in
-    passed-over _ _ _ _ (start .pre) (λ x rest e m. omega (arith, c .if1 .taken, left-is _ _ _ (start .pre) (g .1 .0 .0) (g .1 .1 .1 .0 .0) x rest e m))
+    passed-over _ _ _ _ _ _ _ (c .no-call .ensures .2) (start .pre)
+    (λ x rest e m. omega (arith, k .if1 .taken, left-is _ _ _ (start .pre) (g .1 .0 .0) (g .1 .1 .1 .0 .0) x rest e m))
+
+no-call-requires-2 : tie.Need-no-call-requires-2
+no-call-requires-2 c κs = search needs
 
 returns-2 : tie.Need-returns-2
 returns-2 c =
-    let f = c .before .before in
+    let k = c .before in
+    let f = k .before .before in
     let start = f .before .before .before .before .before .before in
     let g = start .good in
-    passed-over _ _ _ _ (start .pre) (λ x rest e m. omega (arith, c .if2 .taken, f .field2 .ensures .0, left-is _ _ _ (start .pre) (g .1 .0 .0) (g .1 .1 .1 .0 .0) x rest e m, length-read _ _ _ (start .pre) (g .1 .0 .0) (g .1 .1 .1 .0 .0) x rest e m))
+    passed-over _ _ _ _ _ _ _ (c .no-call2 .ensures .2) (start .pre)
+    (λ x rest e m. omega (arith, k .if2 .taken, f .field2 .ensures .0, left-is _ _ _ (start .pre) (g .1 .0 .0) (g .1 .1 .1 .0 .0) x rest e m, length-read _ _ _ (start .pre) (g .1 .0 .0) (g .1 .1 .1 .0 .0) x rest e m))
+
+no-call-requires-3 : tie.Need-no-call-requires-3
+no-call-requires-3 c κs = search needs
 
 returns-3 : tie.Need-returns-3
 returns-3 c =
-    let f = c .before .before .before .before in
+    let k = c .before in
+    let f = k .before .before .before .before in
     let start = f .before .before .before .before .before in
     let g = start .good in
-    passed-over _ _ _ _ (start .pre) (λ x rest e m. omega (arith, c .if3 .taken, f .field .ensures .0, room-enough _ _ _ (start .pre) (g .1 .0 .0) (g .1 .1 .1 .0 .0) x rest e m))
+    passed-over _ _ _ _ _ _ _ (c .no-call3 .ensures .2) (start .pre)
+    (λ x rest e m. omega (arith, k .if3 .taken, f .field .ensures .0, room-enough _ _ _ (start .pre) (g .1 .0 .0) (g .1 .1 .1 .0 .0) x rest e m))
 
 add-from : tie.Need-add-from
 add-from c = search needs
@@ -96,7 +113,7 @@ returns-4 c =
       continues = λ x rest e m.
           makes _ _ _ (start .pre) (g .1 .0 .0) (g .1 .1 .1 .0 .0) x rest e m _ _ _ _ len _ _ _
           (b .byte-field .ensures) (b2 .byte-field2 .ensures) (length-take-le (f .field .result) (start .args .reply .now) (if3 .if3 .left) ∙ f .field .ensures .0)
-          (f2 .field2 .ensures .0) (part-is (start .args .at + 18) len (start .args .s .now)) (k .call .ensures);
+          (f2 .field2 .ensures .0) (part-is (start .args .at + headingSize) len (start .args .s .now)) (k .call .ensures);
       comes-to = λ x rest e m. comes _ _ _ (start .pre) (g .1 .0 .0) (g .1 .1 .1 .0 .0) x rest e m len (f2 .field2 .ensures .0);
     }
 
@@ -112,8 +129,11 @@ step-spec =
     field-requires
     add-field-2
     field-requires-2
+    no-call-requires
     returns
+    no-call-requires-2
     returns-2
+    no-call-requires-3
     returns-3
     add-from
     add-to
