@@ -1,7 +1,6 @@
 -- The rules are not empty: RUN is reached, an output is written, silence ends it at the very tick. Assumes nothing.
-use mathlib.Core.List.{List, [], _∷_, _++_}
+use mathlib.Core.List.{[], _∷_}
 use mathlib.Core.Path.{_≡_, refl}
-use Prim.Native.Nat.{ℕ}
 use lib.ListN.{getD}
 use Rattle.base.specs.Bytes.{bytesOf, numberAt}
 use Rattle.crc.specs.Crc.{topBit, crcBit, crcBits, crcByte, crcFrom, crcOf}
@@ -25,7 +24,8 @@ use Rattle.rules.specs.State.{inRun, inFallback}
 use Rattle.rules.specs.Sync.{cycleFits, heardSync, synced, onSync}
 use Rattle.rules.specs.Tick.{counted, limited, cycleEnded, ticked}
 use Rattle.rules.specs.Writes.{spanAt, spanOf, onWrite}
-use Rattle.bench.specs.Journey.{opening, silent, after, answers, module1}
+use Rattle.bench.specs.BusCalls.{module1, after, answers, silent}
+use Rattle.bench.specs.Journey.{opening}
 
 -- every call of the opening is accepted
 pub all-accepted : answers opening module1 ≡ 0 ∷ 0 ∷ 0 ∷ 0 ∷ 0 ∷ []
