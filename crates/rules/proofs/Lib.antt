@@ -26,8 +26,6 @@ pub mod Spans
 pub mod Writing
 pub mod LowBytes
 pub mod Assigning
-pub mod GoodDeeds
-pub mod GoodFrames
 pub mod GoodNext
 pub mod GoodStart
 pub mod NeverUnsound

@@ -1,11 +1,10 @@
 -- What the module reads yields only frames that it serves: a TYP that is not served is 7 before anything else is read,
 -- and a SIL4 assignment is told by its length. Assumes nothing.
-use mathlib.Core.Bool.{Bool, true, false, _&&_}
+use mathlib.Core.Bool.{Bool, true, false}
 use mathlib.Core.Path.{_≡_, refl, sym, ap, _∙_}
 use mathlib.Core.List.{List, _∷_}
 use Prim.Native.Nat.{ℕ}
 use native.Mathlib.Omega.{arith}
-use lib.Dec.{eqb}
 use lib.ListN.{getD}
 use Rattle.base.specs.Bytes.{Bytes, numberAt}
 use Rattle.base.specs.Choice.{choose}
@@ -56,6 +55,11 @@ module _ (a : ℕ) (s : List ℕ) (p : served (numberAt s 0 1) ≡ true) (q : is
   standing-served (SidAssignment4 src sec mac sid sid2 src2) st = never (sym q ∙ rw (first-field s _ _ _ (st .head), st .size) refl)
   standing-served (Acknowledgement src dst sec mac) st = unserved _ _ _ (st .head) refl
   standing-served (Invariants dest src cyc seq config logic) st = unserved _ _ _ (st .head) refl
+
+-- a frame that the module reads is the one that the reader of frames reads
+pub reads-frame : (addr : ℕ) (s : List ℕ) (f : Frame) → agentRead addr s ≡ Taken f → readApp addr s ≡ Taken f
+unfolding agentRead
+reads-frame addr s f e = through (served (numberAt s 0 1)) (isSil4 s) (readApp addr s) f e .read
 
 pub reads-served : (addr : ℕ) (s : List ℕ) (f : Frame) → Bytes s → agentRead addr s ≡ Taken f → serves f ≡ true
 unfolding agentRead
