@@ -23,15 +23,12 @@ use Rattle.rules.specs.declared.Agent.{Agent}
 use Rattle.rules.proofs.LaidServed.{Layable}
 use Rattle.bench.specs.Cases.{start, InRun, onTime, asked, Says′, p9, p10, p11, p12, p13, p14}
 use Rattle.bench.specs.BusCalls.{ownSid, ownTid, concentrator, comes, syncs, seqOf, after, silent}
-use Rattle.bench.proofs.Acting.{acted, comes-acts, sync-lays, read-lays, write-lays, after-comes, after-append}
+use Rattle.bench.proofs.Acting.{acted, acts-at, sync-lays, read-lays, write-lays, after-comes, after-append}
 use Rattle.bench.proofs.Started.{ready, start-05, start-FF}
 
--- a frame that comes to the agent that another is known to be
-at : {addr : ℕ} {f : Frame} {xs : List ℕ} {a b : Agent} → Layable addr f xs → a ≡ b → act a (comes addr f xs) ≡ acted addr f xs b
-at {addr = addr} {f = f} {xs = xs} {a = a} l e = comes-acts l a ∙ ap (acted addr f xs) e
-
-answer-at : {addr : ℕ} {f : Frame} {xs : List ℕ} {a b : Agent} → Layable addr f xs → a ≡ b → act a (comes addr f xs) .answer ≡ acted addr f xs b .answer
-answer-at l e = ap (λ (o : Outcome). o .answer) (at l e)
+-- the answer to a frame that comes to the agent that another is known to be
+answer-at : {addr : ℕ} {f : Frame} {xs : List ℕ} {a b : Agent} → Layable addr f xs → a ≡ b → act a (comes addr f xs) .answer ≡ acted 1 addr f xs b .answer
+answer-at l e = ap (λ (o : Outcome). o .answer) (acts-at l e)
 
 -- ---- P9
 pub silence-19 : Says′ p9
@@ -45,14 +42,14 @@ silence-19 = (
 -- ---- P10
 abbrev timely : ℕ → ℕ → Agent → Agent
 timely zero c a = a
-timely (suc n) c a = timely n (suc c) (acted 0xFF (Sync concentrator (suc c)) [] (after (silent 10) a) .agent)
+timely (suc n) c a = timely n (suc c) (acted 1 0xFF (Sync concentrator (suc c)) [] (after (silent 10) a) .agent)
 
 on-time : (n c : ℕ) → c + n < 256 → (a : Agent) → after (onTime n c) a ≡ timely n c a
 on-time zero c h a = refl
 on-time (suc n) c h a =
     after-append (silent 10) (syncs (suc c) ∷ onTime n (suc c)) a
     ∙ after-comes (sync-lays (suc c) (omega arith)) (onTime n (suc c)) (after (silent 10) a)
-    ∙ on-time n (suc c) (omega arith) (acted 0xFF (Sync concentrator (suc c)) [] (after (silent 10) a) .agent)
+    ∙ on-time n (suc c) (omega arith) (acted 1 0xFF (Sync concentrator (suc c)) [] (after (silent 10) a) .agent)
 
 timely-then : (calls : List Call) → after (onTime 4 0x05 ++ calls) (start 0x04 0x05) ≡ after calls (timely 4 0x05 (ready 0x05))
 timely-then calls =
@@ -88,15 +85,15 @@ last-output = (
 pub long-reads : Says′ p13
 unfolding sent sendFrame onRequest onDistance distance readReply onWrite spanAt spanOf enterFallback settingsSound sourcesSound countersSound outputsZero runSound fallbackSound sound holds distinct below24 isRecorded sidOf lowNumber powerRegs lowBytes
 long-reads = (
-  ap (λ (o : Outcome). o .line) (at (read-lays 0x05 0 254 0x02 (omega arith) (omega arith) (omega arith)) start-05)
+  ap (λ (o : Outcome). o .line) (acts-at (read-lays 0x05 0 254 0x02 (omega arith) (omega arith) (omega arith)) start-05)
       ∙ ap (λ (a : Agent). frameLine 0xF0 (SafeResponse concentrator ownSid 0x05 0xFC 0x70 254 0x02 0x00) (take 254 (drop 0x02 (a .regs)))) (sym start-05),
-  ap (λ (o : Outcome). o .line) (at (read-lays 0x05 0 255 0x00 (omega arith) (omega arith) (omega arith)) start-05) ∙ refl,
+  ap (λ (o : Outcome). o .line) (acts-at (read-lays 0x05 0 255 0x00 (omega arith) (omega arith) (omega arith)) start-05) ∙ refl,
 )
 
 -- ---- P14
 abbrev requested : ℕ → ℕ → Agent → Agent
 requested zero k a = a
-requested (suc n) k a = requested n (suc k) (acted ownTid (SafeRead ownSid concentrator 0x05 (seqOf 0x05 k) 1 typAt) [] a .agent)
+requested (suc n) k a = requested n (suc k) (acted 1 ownTid (SafeRead ownSid concentrator 0x05 (seqOf 0x05 k) 1 typAt) [] a .agent)
 
 ask-lays : (k : ℕ) → Layable ownTid (SafeRead ownSid concentrator 0x05 (seqOf 0x05 k) 1 typAt) []
 ask-lays k = read-lays 0x05 k 1 typAt (omega arith) (omega arith) (omega arith)
@@ -105,7 +102,7 @@ asked-acts : (n k : ℕ) (a : Agent) → after (asked n k) a ≡ requested n k a
 asked-acts zero k a = refl
 asked-acts (suc n) k a =
     after-comes (ask-lays k) (asked n (suc k)) a
-    ∙ asked-acts n (suc k) (acted ownTid (SafeRead ownSid concentrator 0x05 (seqOf 0x05 k) 1 typAt) [] a .agent)
+    ∙ asked-acts n (suc k) (acted 1 ownTid (SafeRead ownSid concentrator 0x05 (seqOf 0x05 k) 1 typAt) [] a .agent)
 
 after-asked : (n : ℕ) → after (asked n 0) (start 0x04 0x05) ≡ requested n 0 (ready 0x05)
 after-asked n = asked-acts n 0 (start 0x04 0x05) ∙ ap (requested n 0) start-05

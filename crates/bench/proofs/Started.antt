@@ -19,8 +19,8 @@ use Rattle.rules.specs.Sync.{cycleFits, heardSync, synced, onSync}
 use Rattle.rules.specs.Writes.{spanAt, spanOf, onWrite}
 use Rattle.rules.specs.declared.Agent.{Agent}
 use Rattle.bench.specs.Cases.{start}
-use Rattle.bench.specs.BusCalls.{module1, ownSid, ownTid, concentrator, syncs, writesTo, seqOf}
-use Rattle.bench.proofs.Acting.{acted, assignment-lays, sync-lays, write-lays, after-comes}
+use Rattle.bench.specs.BusCalls.{module1, ownSid, ownTid, concentrator, seqOf}
+use Rattle.bench.proofs.Acting.{assignment-lays, sync-lays, write-lays, Coming, after-calls}
 
 -- the SID is there, t is 10, the release is ordered; RUN, with the concentrator's sync of CYC c just accepted
 abbrev pub readyRegs : List ℕ
@@ -41,36 +41,20 @@ ready c = record {
   count = 1;
 }
 
--- the calls one by one
-module _ (b c : ℕ) (low : b < 256) (high : c < 256) where
-  assigned : Agent
-  assigned = acted 0xFF (SidAssignment concentrator 0x00000001 0x01 ownSid) [] module1 .agent
-
-  synced-b : Agent
-  synced-b = acted 0xFF (Sync concentrator b) [] assigned .agent
-
-  timed : Agent
-  timed = acted ownTid (SafeWrite ownSid concentrator b (seqOf b 0) 1 tcyc) (0x0A ∷ []) synced-b .agent
-
-  ordered : Agent
-  ordered = acted ownTid (SafeWrite ownSid concentrator b (seqOf b 1) 1 outRep) (0x55 ∷ []) timed .agent
-
-  synced-c : Agent
-  synced-c = acted 0xFF (Sync concentrator c) [] ordered .agent
-
-  by-calls : start b c ≡ synced-c
-  unfolding assigned synced-b timed ordered synced-c
-  by-calls =
-      after-comes assignment-lays (syncs b ∷ writesTo b 0 tcyc (0x0A ∷ []) ∷ writesTo b 1 outRep (0x55 ∷ []) ∷ syncs c ∷ []) module1
-      ∙ after-comes (sync-lays b low) (writesTo b 0 tcyc (0x0A ∷ []) ∷ writesTo b 1 outRep (0x55 ∷ []) ∷ syncs c ∷ []) assigned
-      ∙ after-comes (write-lays b 0 tcyc (0x0A ∷ []) low (omega arith) (omega arith)) (writesTo b 1 outRep (0x55 ∷ []) ∷ syncs c ∷ []) synced-b
-      ∙ after-comes (write-lays b 1 outRep (0x55 ∷ []) low (omega arith) (omega arith)) (syncs c ∷ []) timed
-      ∙ after-comes (sync-lays c high) [] ordered
+-- the calls that lead there
+abbrev coming : (b c : ℕ) → b < 256 → c < 256 → List Coming
+coming b c low high =
+    record { port = 1; addr = 0xFF; f = SidAssignment concentrator 0x00000001 0x01 ownSid; xs = []; on-port = refl; lays = assignment-lays }
+    ∷ record { port = 1; addr = 0xFF; f = Sync concentrator b; xs = []; on-port = refl; lays = sync-lays b low }
+    ∷ record { port = 1; addr = ownTid; f = SafeWrite ownSid concentrator b (seqOf b 0) 1 tcyc; xs = 0x0A ∷ []; on-port = refl; lays = write-lays b 0 tcyc (0x0A ∷ []) low (omega arith) (omega arith) }
+    ∷ record { port = 1; addr = ownTid; f = SafeWrite ownSid concentrator b (seqOf b 1) 1 outRep; xs = 0x55 ∷ []; on-port = refl; lays = write-lays b 1 outRep (0x55 ∷ []) low (omega arith) (omega arith) }
+    ∷ record { port = 1; addr = 0xFF; f = Sync concentrator c; xs = []; on-port = refl; lays = sync-lays c high }
+    ∷ []
 
 pub start-05 : start 0x04 0x05 ≡ ready 0x05
-unfolding onFirstSid onLaterSid onSid enterFallback enterRun powerRegs powerUp lowBytes lowNumber syncReply acknowledges sendFrame sent distance onDistance onRequest settingsSound sourcesSound countersSound outputsZero runSound fallbackSound sound holds distinct below24 isRecorded recorded sidOf cycleFits heardSync synced onSync spanAt spanOf onWrite synced-b timed ordered synced-c assigned
-start-05 = by-calls 0x04 0x05 (omega arith) (omega arith) ∙ refl
+unfolding onFirstSid onLaterSid onSid enterFallback enterRun powerRegs powerUp lowBytes lowNumber syncReply acknowledges sendFrame sent distance onDistance onRequest settingsSound sourcesSound countersSound outputsZero runSound fallbackSound sound holds distinct below24 isRecorded recorded sidOf cycleFits heardSync synced onSync spanAt spanOf onWrite
+start-05 = after-calls (coming 0x04 0x05 (omega arith) (omega arith)) module1 ∙ refl
 
 pub start-FF : start 0xFE 0xFF ≡ ready 0xFF
-unfolding onFirstSid onLaterSid onSid enterFallback enterRun powerRegs powerUp lowBytes lowNumber syncReply acknowledges sendFrame sent distance onDistance onRequest settingsSound sourcesSound countersSound outputsZero runSound fallbackSound sound holds distinct below24 isRecorded recorded sidOf cycleFits heardSync synced onSync spanAt spanOf onWrite synced-b timed ordered synced-c assigned
-start-FF = by-calls 0xFE 0xFF (omega arith) (omega arith) ∙ refl
+unfolding onFirstSid onLaterSid onSid enterFallback enterRun powerRegs powerUp lowBytes lowNumber syncReply acknowledges sendFrame sent distance onDistance onRequest settingsSound sourcesSound countersSound outputsZero runSound fallbackSound sound holds distinct below24 isRecorded recorded sidOf cycleFits heardSync synced onSync spanAt spanOf onWrite
+start-FF = after-calls (coming 0xFE 0xFF (omega arith) (omega arith)) module1 ∙ refl
