@@ -1,7 +1,6 @@
 -- The rules are not empty: RUN is reached, an output is written, silence ends it at the very tick. Assumes nothing.
 use mathlib.Core.List.{List, [], _∷_}
 use mathlib.Core.Path.{_≡_, refl, ap, _∙_}
-use Prim.Native.Nat.{ℕ}
 use native.Mathlib.Omega.{arith}
 use Rattle.frames.specs.declared.kinds.Frame.the-variants.{Sync, SafeWrite, SidAssignment}
 use Rattle.rules.specs.Assignments.{onFirstSid, onLaterSid, onSid}

@@ -1,12 +1,10 @@
 -- What a tick does to t, e and c, of any agent: t stays; e goes up by one; at the end of the cycle c goes up by one and e
 -- starts again. Assumes nothing.
-use mathlib.Core.Bool.{true, false}
 use mathlib.Core.Path.{_≡_, refl, ap, _∙_}
 use Prim.Native.Nat.{ℕ, _+_, _%_, _≤_, _<_}
 use native.Mathlib.Omega.{arith}
 use borrow.Author.Tests.{le-leb, lt-leb}
 use lib.Dec.{leb}
-use Rattle.base.specs.Choice.{choose}
 use Rattle.base.proofs.Choosing.{by-test, choose-true, choose-false}
 use Rattle.rules.specs.Fallback.{enterFallback}
 use Rattle.rules.specs.Registers.{tcyc}

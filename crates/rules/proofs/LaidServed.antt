@@ -1,21 +1,20 @@
 -- A body that the frame writer lays down for a frame that this module serves is acted on as that frame with its data: none
 -- of 1 to 5 and 7 to 9 comes, and 6 only for another's address. Assumes nothing.
-use mathlib.Core.Bool.{Bool, true, false, _&&_, _||_}
+use mathlib.Core.Bool.{true, false, _||_}
 use mathlib.Core.List.{List}
-use mathlib.Core.Path.{_≡_, refl, sym, ap, _∙_}
+use mathlib.Core.Path.{_≡_, refl, ap, _∙_}
 use Prim.Native.Nat.{ℕ, _/_, _%_, _≤_}
 use native.Mathlib.Omega.{arith}
 use borrow.Author.Tests.{eqb-true, le-ltb}
-use lib.Dec.{eqb, ltb}
-use lib.ListN.{length, take}
+use lib.Dec.{eqb}
+use lib.ListN.{length}
 use Rattle.base.specs.Bytes.{numberAt}
 use Rattle.base.specs.Choice.{choose}
 use Rattle.base.proofs.Choosing.{never, and-left, and-right}
-use Rattle.wire.specs.Body.{reservedAddr, fcsOf, readBody}
+use Rattle.wire.specs.Body.{reservedAddr, fcsOf}
 use Rattle.wire.specs.Laying.{bodyOf}
-use Rattle.wire.specs.declared.body.Body.{Body}
-use Rattle.wire.proofs.BodyBothWays.{takenBody, held-data, laid-then-read}
-use Rattle.frames.specs.Kinds.{dataLen, dataIn, appOf}
+use Rattle.wire.proofs.BodyBothWays.{held-data, laid-then-read}
+use Rattle.frames.specs.Kinds.{dataLen, appOf}
 use Rattle.frames.specs.Sized.{Sized}
 use Rattle.frames.specs.Writing.{fieldsFit, fits}
 use Rattle.frames.specs.declared.kinds.Frame.{Frame}
@@ -30,10 +29,9 @@ use Rattle.frames.proofs.Standing.{Stands, written-stands}
 use Rattle.rules.specs.Answers.{elsewhere, unsound}
 use Rattle.rules.specs.Calls.{leastRoom, frameCall}
 use Rattle.rules.specs.FrameCall.{onKind, serves, served, isSil4, agentRead, onRead, isOwn, onApp, onBody, onFrame}
-use Rattle.rules.specs.Replies.{Outcome, does, outcome, sent}
+use Rattle.rules.specs.Replies.{does, outcome, sent}
 use Rattle.rules.specs.Sound.{sound}
 use Rattle.rules.specs.declared.Agent.{Agent}
-use Rattle.rules.specs.declared.Deed.{Deed}
 use Rattle.rules.proofs.ServedFrames.{first-field}
 
 -- its TYP is served, and it is no SIL4 assignment
