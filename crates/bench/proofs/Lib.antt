@@ -1,3 +1,7 @@
 pub mod Stuffed
+pub mod PowerUpTicks
+pub mod Acting
+pub mod Started
+pub mod RunCases
 pub mod Table
 pub mod Journeyed

@@ -1,11 +1,9 @@
 -- P5 and P6: an escape followed by 31h, or by nothing, is wrong wherever it stands. Assumes nothing.
 use mathlib.Core.Bool.{Bool, true, false}
 use mathlib.Core.List.{List, [], _∷_, _++_}
-use mathlib.Core.Option.{Option, none, some}
-use mathlib.Core.Path.{_≡_, refl, sym, ap, _∙_}
-use Prim.Native.Nat.{ℕ, _≤_}
-use lib.ListN.{length}
-use Rattle.wire.specs.Body.{readBody, verdictNumber}
+use mathlib.Core.Option.{Option, none}
+use mathlib.Core.Path.{_≡_, refl, ap}
+use Prim.Native.Nat.{ℕ}
 use Rattle.wire.specs.Stuffing.{meaningOf, before, unstuffFrom, unstuff, prepend}
 use Rattle.wire.specs.declared.stuffing.Meaning.{Meaning}
 use Rattle.wire.specs.declared.stuffing.Meaning.the-variants.{Plain, Escape, Wrong}

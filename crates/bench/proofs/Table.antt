@@ -10,17 +10,9 @@ use Rattle.wire.specs.Body.{readBody, unstuffedBody, verdictNumber}
 use Rattle.wire.specs.Stuffing.{stuffByte, stuff, unstuff, plainOf}
 use Rattle.wire.specs.declared.body.Body.{Body}
 use Rattle.wire.specs.declared.stuffing.Unstuffed.{Unstuffed}
-use Rattle.rules.specs.Fallback.{enterFallback, enterRun}
-use Rattle.rules.specs.Marks.{sequenceMarked}
-use Rattle.rules.specs.PowerUp.{powerRegs, powerUp}
-use Rattle.rules.specs.Registers.{lowBytes, lowNumber}
-use Rattle.rules.specs.Replies.{syncReply, readReply}
-use Rattle.rules.specs.Requests.{distance, onDistance, onRequest}
-use Rattle.rules.specs.Sources.{holds, isRecorded, sidOf}
-use Rattle.rules.specs.Sync.{cycleFits, heardSync, synced, onSync}
-use Rattle.rules.specs.Tick.{counted, limited, cycleEnded, ticked}
-use Rattle.rules.specs.Writes.{spanAt, spanOf, onWrite}
 use Rattle.bench.specs.Cases.{Bench, p1, p2, p3, p4, p5, p6, p7, p8, p9, p10, p11, p12, p13, p14, Says′}
+use Rattle.bench.proofs.PowerUpTicks.{first-cycle}
+use Rattle.bench.proofs.RunCases.{silence-19, commands-49, wraps, last-output, long-reads, sixty-four}
 use Rattle.bench.proofs.Stuffed.{wrong-31, wrong-last}
 
 -- a body whose stuffed part means nothing is 2
@@ -30,7 +22,7 @@ two a s g h e =
     (sym (body-fits (a ∷ s) g h) ∙ ap (λ (u : Unstuffed). unstuffedBody a u) (ap plainOf e) ∙ sym (unstuffed-wrong a (plainOf none) refl))
 
 pub bench : (p : Bench) → Says′ p
-unfolding crcOf crcFrom crcByte crcBits crcBit topBit stuff stuffByte enterFallback enterRun sequenceMarked powerRegs powerUp lowBytes lowNumber syncReply readReply distance onDistance onRequest holds isRecorded sidOf cycleFits heardSync synced onSync counted limited cycleEnded ticked spanAt spanOf onWrite
+unfolding crcOf crcFrom crcByte crcBits crcBit topBit stuff stuffByte
 bench p1 = refl
 bench p2 = refl
 bench p3 = refl
@@ -38,10 +30,10 @@ bench p4 = refl
 bench p5 = λ a xs ys g h. two a (xs ++ (0x7D ∷ 0x31 ∷ ys)) g h (wrong-31 xs ys)
 bench p6 = λ a xs g h. two a (xs ++ (0x7D ∷ [])) g h (wrong-last xs)
 bench p7 = refl
-bench p8 = refl
-bench p9 = (refl, refl)
-bench p10 = (refl, refl)
-bench p11 = (refl, refl)
-bench p12 = (refl, refl)
-bench p13 = (refl, refl)
-bench p14 = (refl, refl)
+bench p8 = first-cycle
+bench p9 = silence-19
+bench p10 = commands-49
+bench p11 = wraps
+bench p12 = last-output
+bench p13 = long-reads
+bench p14 = sixty-four

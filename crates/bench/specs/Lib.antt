@@ -1,2 +1,3 @@
-pub mod Cases
+pub mod BusCalls
 pub mod Journey
+pub mod Cases

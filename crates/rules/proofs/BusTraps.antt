@@ -1,8 +1,8 @@
 -- Document 01, "Traps of this bus", and what else is easily got wrong: what the rules do there, rule by rule.
 -- Assumes nothing.
-use mathlib.Core.Bool.{Bool, true, false, not, _&&_, _||_}
+use mathlib.Core.Bool.{true, false, not, _&&_, _||_}
 use mathlib.Core.List.{List, [], _∷_}
-use mathlib.Core.Path.{_≡_, refl, sym, ap, _∙_}
+use mathlib.Core.Path.{_≡_, refl, _∙_}
 use Prim.Native.Nat.{ℕ, _+_, _-_, _<_}
 use native.Mathlib.Omega.{arith}
 use lib.Dec.{eqb}
@@ -11,14 +11,14 @@ use lib.ListN.{length, replicate, getD-replicate}
 use lib.Seq.{sets, length-sets}
 use Rattle.base.proofs.Choosing.{choose-true, or-second}
 use Rattle.base.proofs.Stored.{stored-in}
-use Rattle.rules.specs.Answers.{source, addressee, cycle, repeat}
+use Rattle.rules.specs.Answers.{source, cycle, repeat}
 use Rattle.rules.specs.Fallback.{withheld, enterFallback, enterRun}
 use Rattle.rules.specs.Marks.{sequenceMarked}
 use Rattle.rules.specs.Registers.{outRep, statut, outputsAt, image}
 use Rattle.rules.specs.Replies.{does}
 use Rattle.rules.specs.Requests.{Ask, onRequest}
 use Rattle.rules.specs.Sources.{isRecorded, sidOf}
-use Rattle.rules.specs.State.{isHeard, unheard, nobody, running, reg}
+use Rattle.rules.specs.State.{isHeard, nobody, running, reg}
 use Rattle.rules.specs.Sync.{isRepeat, cycleFits, onSync}
 use Rattle.rules.specs.Tick.{syncLimit, limited}
 use Rattle.rules.specs.declared.Agent.{Agent}

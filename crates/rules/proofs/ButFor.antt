@@ -66,7 +66,7 @@ only-registers c a r h l = record {
   mode = λ e. refl;
   q = λ e. refl;
   k = λ e. refl;
-  c-same = refl;
+  c = refl;
   heard = refl;
   e = refl;
   s = refl;
@@ -118,7 +118,7 @@ module _ (a : Agent) where
     mode = λ e. never (sym e);
     q = λ e. never (sym e);
     k = λ e. refl;
-    c-same = refl;
+    c = refl;
     heard = refl;
     e = refl;
     s = refl;
@@ -132,7 +132,7 @@ module _ (a : Agent) where
     mode = λ e. refl;
     q = λ e. refl;
     k = λ e. never (sym e);
-    c-same = refl;
+    c = refl;
     heard = refl;
     e = refl;
     s = refl;

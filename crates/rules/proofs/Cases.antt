@@ -49,7 +49,7 @@ isHosts n = eqb n replyRoom || eqb n hostInput
 
 -- ---- the cases
 
--- the agent that a taken request finds
+-- the agent that a request finds once it is taken
 abbrev pub takenBy : ℕ → ℕ → Agent → Agent
 takenBy seq cyc a = withTaken (distance seq cyc + 1) a
 
@@ -111,7 +111,7 @@ pub data CallCase (a : Agent) : Call → Outcome → Type 0 where
 module _ (port : ℕ) (a : Agent) where
   module _ {f : Frame} {xs : List ℕ} where
     -- a test that refuses, and what follows it
-    pub unless : (b : Bool) {x y : Deed} → KindCase a f xs x → (b ≡ false → KindCase a f xs y) → KindCase a f xs (choose b x y)
+    unless : (b : Bool) {x y : Deed} → KindCase a f xs x → (b ≡ false → KindCase a f xs y) → KindCase a f xs (choose b x y)
     unless b c k = by-test (KindCase a f xs) b (λ e. c) k
 
     -- 12, to a frame that is no sync

@@ -1,23 +1,43 @@
 -- From power-up on every call leaves a good agent. Assumes nothing.
-use mathlib.Core.Bool.{_||_}
+use mathlib.Core.Bool.{_&&_}
 use mathlib.Core.List.{List}
-use Prim.Native.Nat.{ℕ}
-use borrow.Author.Tests.{eqb-true}
-use lib.Dec.{eqb, ltb}
-use lib.ListN.{length}
+use mathlib.Core.Path.{_≡_}
+use Prim.Native.Nat.{ℕ, _^_, _<_}
+use native.Mathlib.Omega.{arith}
+use borrow.Author.Tests.{eqb-true, eqb-false}
+use lib.ListN.{length, drop}
 use Rattle.base.specs.Bytes.{Bytes}
-use Rattle.base.proofs.Choosing.{by-test}
-use Rattle.rules.specs.Calls.{leastRoom, tickCall, inputCall, frameCall, Call, tick, input, frame, act}
-use Rattle.rules.specs.FrameCall.{onFrame}
+use Rattle.base.proofs.Bytes.{bytes-take, bytes-drop}
+use Rattle.wire.specs.Body.{readBody}
+use Rattle.wire.proofs.ReadBytes.{data-bytes}
+use Rattle.frames.specs.Kinds.{dataLen, dataPlace}
+use Rattle.frames.specs.declared.kinds.Frame.{Frame}
+use Rattle.frames.proofs.Fits.{FittingFrame}
+use Rattle.frames.proofs.Receiving.{appIn}
+use Rattle.rules.specs.Calls.{Call, act}
 use Rattle.rules.specs.Good.{Good, BytesCall}
-use Rattle.rules.specs.Registers.{image}
-use Rattle.rules.specs.Sound.{sound}
+use Rattle.rules.specs.Marks.{sequenceMarked}
+use Rattle.rules.specs.Refusals.{readOf, isSync, readsSync}
+use Rattle.rules.specs.Replies.{Outcome}
+use Rattle.rules.specs.Sources.{isRecorded}
+use Rattle.rules.specs.State.{nobody, running}
+use Rattle.rules.specs.Writes.{spanOf}
 use Rattle.rules.specs.declared.Agent.{Agent}
-use Rattle.rules.proofs.GoodFrames.{GoodOutcome, good-frame, good-sending}
-use Rattle.rules.proofs.Kept.{GoodTo}
-use Rattle.rules.proofs.Marking.{good-inputs}
+use Rattle.rules.specs.declared.Deed.{Deed}
+use Rattle.rules.proofs.Assigning.{good-tid, good-later, good-first}
+use Rattle.rules.proofs.Cases.{takenBy, Passes, Accepts, heard, read, wrote, renamed, first, again, later, KindCase, refuses, fell, outside, accepts, FrameCase, unread, taken, CallCase, unsoundly, hosts, ticks, stores, frames, call-case, by-sent}
+use Rattle.rules.proofs.Hearing.{good-synced}
+use Rattle.rules.proofs.Kept.{GoodTo, good-counting}
+use Rattle.rules.proofs.MarkSteps.{sequence-marks, row-marks}
+use Rattle.rules.proofs.Marking.{good-inputs, good-marks, good-sent}
+use Rattle.rules.proofs.Modes.{good-fallen}
+use Rattle.rules.proofs.Recorded.{holds-empty}
+use Rattle.rules.proofs.ServedFrames.{reads-frame}
 use Rattle.rules.proofs.SoundParts.{parts, sound-of}
+use Rattle.rules.proofs.Spans.{span-placed}
+use Rattle.rules.proofs.TakenFits.{taken-fitting}
 use Rattle.rules.proofs.Ticking.{good-tick}
+use Rattle.rules.proofs.Writing.{good-written}
 
 -- good, as facts
 pub good-parts : (a : Agent) → Good a → GoodTo 254 a
@@ -28,32 +48,46 @@ pub parts-good : (a : Agent) → GoodTo 254 a → Good a
 parts-good a g =
     record { sound-is = sound-of a (g .parts); registers = g .registers .are-256; bytes = g .registers .are-bytes; places = g .places }
 
-module _ (a : Agent) (g : GoodTo 254 a) where
-  good-tick-call : GoodOutcome (tickCall a)
-  unfolding tickCall
-  good-tick-call = by-test GoodOutcome (sound a) (λ e. record { good = good-tick a g }) (λ e. record { good = g })
+below-nobody : {src : ℕ} → src < 256 ^ 3 → (src ≡ nobody → ⊥) → src < nobody
+below-nobody h k = omega arith
 
-  good-input-call : (xs : List ℕ) → Bytes xs → GoodOutcome (inputCall a xs)
-  unfolding inputCall
-  good-input-call xs b =
-      by-test GoodOutcome (sound a)
-      (λ e. by-test GoodOutcome (eqb (length xs) image)
-      (λ h. record { good = good-inputs 254 a g xs (eqb-true (length xs) image h) b }) (λ h. record { good = g }))
-      (λ e. record { good = g })
+module _ {a : Agent} (g : GoodTo 254 a) where
+  good-taken : {dest src cyc seq : ℕ} → Passes a dest src cyc seq → GoodTo 254 (takenBy seq cyc a)
+  good-taken h =
+      let p = g .parts in
+      good-counting 254 254 a g (omega arith) (p .e-most) (p .last-is) (p .heard-is) (p .by-mode)
 
-  good-frame-call : (port : ℕ) (body : List ℕ) (room : ℕ) → Bytes body → GoodOutcome (frameCall a port body room)
-  unfolding frameCall
-  good-frame-call port body room b =
-      by-test GoodOutcome (sound a)
-      (λ e. by-test GoodOutcome (ltb room leastRoom) (λ h. record { good = g })
-      (λ h. by-test GoodOutcome (eqb port 1 || eqb port 2)
-      (λ p. good-sending (onFrame port a body) (good-frame port a g body b)) (λ p. record { good = g })))
-      (λ e. record { good = g })
+  good-accepted : {f : Frame} {xs : List ℕ} {b : Agent} → FittingFrame f → Bytes xs → Accepts a f xs b → GoodTo 254 b
+  unfolding isRecorded
+  good-accepted h b (heard {src = src} {cyc = cyc} k) = good-synced a src cyc g (k .known) (k .somebody)
+  good-accepted h b (read p) = good-taken p
+  good-accepted h b (wrote {cyc = cyc} {seq = seq} {add = add} {xs = xs} p e) = good-written (takenBy seq cyc a) (good-taken p) add xs b (spanOf add (length xs)) (span-placed add (length xs)) e
+  good-accepted h b (renamed {tid = tid} e) = good-tid a tid g e
+  good-accepted h b (first {src = src} {sid = sid} s n i) =
+      let none = eqb-true (a .count) 0 n in
+      good-first a src g (omega arith) (below-nobody (omega (arith, h)) s) (holds-empty (a .known) (a .count) src none) sid (omega (arith, h)) i
+  good-accepted h b (again n) = g
+  good-accepted h b (later {src = src} s n i e) = good-later a src g e (below-nobody (omega (arith, h)) s) i (eqb-false (a .count) 0 n)
 
-  good-act : (call : Call) → BytesCall call → GoodOutcome (act a call)
-  good-act tick b = good-tick-call
-  good-act (input xs) b = good-input-call xs b
-  good-act (frame port body room) b = good-frame-call port body room b
+  good-kind : {f : Frame} {xs : List ℕ} {d : Deed} → FittingFrame f → Bytes xs → KindCase a f xs d → GoodTo 254 (d .agent)
+  good-kind {f = f} h b (refuses n e) = good-marks 254 g (row-marks a (isSync f && running a) n e)
+  good-kind h b (fell e) = good-fallen 254 (sequenceMarked a) (good-marks 254 g (sequence-marks a))
+  good-kind h b (outside p) = good-taken p
+  good-kind h b (accepts c) = good-accepted h b c
+
+  good-frame : {body : List ℕ} {d : Deed} → Bytes body → FrameCase a body d → GoodTo 254 (d .agent)
+  good-frame {body = body} b (unread n h) = good-marks 254 g (row-marks a (readsSync (readOf body) && running a) n h)
+  good-frame {body = body} b (taken f v e c) =
+      let s : Bytes (appIn (readBody body)) = data-bytes body b in
+      good-kind (taken-fitting (readBody body .addr) (appIn (readBody body)) f s (reads-frame (readBody body .addr) (appIn (readBody body)) f e))
+      (bytes-take (dataLen f) (drop (dataPlace f) (appIn (readBody body))) (bytes-drop (dataPlace f) (appIn (readBody body)) s)) c
+
+  good-call : {call : Call} {o : Outcome} → BytesCall call → CallCase a call o → GoodTo 254 (o .agent)
+  good-call b (unsoundly e) = g
+  good-call b (hosts n h) = g
+  good-call b ticks = good-tick a g
+  good-call b (stores {xs = xs} e) = good-inputs 254 a g xs e b
+  good-call b (frames {d = d} c) = by-sent (λ o. GoodTo 254 (o .agent)) d (good-frame b c) (λ f. good-sent 254 (d .agent) (good-frame b c))
 
 pub good-next : (a : Agent) (call : Call) → Good a → BytesCall call → Good (act a call .agent)
-good-next a call g b = parts-good (act a call .agent) (good-act a (good-parts a g) call b .good)
+good-next a call g b = parts-good (act a call .agent) (good-call (good-parts a g) b (call-case a call))

@@ -11,6 +11,7 @@ pub mod RowKeeps
 pub mod CountersKept
 pub mod TakenFits
 pub mod ServedFrames
+pub mod LaidServed
 pub mod Parts
 pub mod Recorded
 pub mod SoundParts
@@ -19,13 +20,12 @@ pub mod Kept
 pub mod Marking
 pub mod Modes
 pub mod Ticking
+pub mod CycleClock
 pub mod Hearing
 pub mod Spans
 pub mod Writing
 pub mod LowBytes
 pub mod Assigning
-pub mod GoodDeeds
-pub mod GoodFrames
 pub mod GoodNext
 pub mod GoodStart
 pub mod NeverUnsound

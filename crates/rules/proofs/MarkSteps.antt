@@ -4,10 +4,12 @@ use mathlib.Core.Path.{_≡_, refl}
 use Prim.Native.Nat.{ℕ}
 use lib.Bits.{bitOr}
 use lib.Dec.{eqb}
+use Rattle.base.specs.Choice.{within}
 use Rattle.base.proofs.Choosing.{never, and-right}
+use Rattle.rules.specs.Answers.{bodyLength, eightOthers}
 use Rattle.rules.specs.Counters.{isCounter}
 use Rattle.rules.specs.Marks.{counter, lineMarked, formatMarked, sequenceMarked}
-use Rattle.rules.specs.Refusals.{Change, nothing, lineMark, formatMark, sequenceMark, sequenceFall, oneTaken, changed, isRefusal, rowOf}
+use Rattle.rules.specs.Refusals.{Change, nothing, lineMark, formatMark, sequenceMark, sequenceFall, oneTaken, changed, rowOf}
 use Rattle.rules.specs.Registers.{statut, cptSeq, cptFor}
 use Rattle.rules.specs.State.{reg, store}
 use Rattle.rules.specs.declared.Agent.{Agent}
@@ -30,9 +32,13 @@ onlyMarks sequenceMark = true
 onlyMarks sequenceFall = false
 onlyMarks oneTaken = false
 
--- a refusal that only marks
+-- 1 to 18, which frames cause
+abbrev pub isFrames : ℕ → Bool
+isFrames n = within bodyLength eightOthers n
+
+-- and of these the ones that only mark
 abbrev pub isMarking : Bool → ℕ → Bool
-isMarking syncInRun n = isRefusal n && onlyMarks (rowOf syncInRun n)
+isMarking syncInRun n = isFrames n && onlyMarks (rowOf syncInRun n)
 
 module _ (a : Agent) where
   line-marks : Marks a (lineMarked a)
@@ -56,4 +62,4 @@ module _ (a : Agent) where
   change-marks oneTaken e = never e
 
   pub row-marks : (syncInRun : Bool) (n : ℕ) → isMarking syncInRun n ≡ true → Marks a (changed (rowOf syncInRun n) a)
-  row-marks b n e = change-marks (rowOf b n) (and-right (isRefusal n) (onlyMarks (rowOf b n)) e)
+  row-marks b n e = change-marks (rowOf b n) (and-right (isFrames n) (onlyMarks (rowOf b n)) e)

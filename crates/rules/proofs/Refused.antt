@@ -3,12 +3,13 @@
 use mathlib.Core.Bool.{Bool, true, not, _&&_}
 use mathlib.Core.List.{List}
 use mathlib.Core.Path.{_≡_, refl, sym, ap, _∙_, subst}
-use Prim.Native.Nat.{ℕ, _+_}
-use borrow.Author.Tests.{eqb-true}
-use lib.Dec.{eqb}
-use Rattle.base.proofs.Choosing.{never, and-left, or-cases}
+use Prim.Native.Nat.{ℕ, _+_, _≤_}
+use native.Mathlib.Omega.{arith}
+use borrow.Author.Tests.{eqb-true, leb-true, le-leb}
+use lib.Dec.{eqb, leb}
+use Rattle.base.proofs.Choosing.{never, and-left, and-right, and-true, or-cases}
 use Rattle.frames.specs.declared.kinds.Frame.{Frame}
-use Rattle.rules.specs.Answers.{accepted, cycle, elsewhere, crc, source, addressee, repeat, replyRoom, hostInput}
+use Rattle.rules.specs.Answers.{accepted, bodyLength, eightOthers, cycle, elsewhere, crc, source, addressee, repeat, replyRoom, hostInput}
 use Rattle.rules.specs.Calls.{Call, frame, act}
 use Rattle.rules.specs.Refusals.{Change, nothing, isRefusal, rowOf, changed, leavesAll, readOf, isSync, readsSync, syncInRun, Refused}
 use Rattle.rules.specs.Replies.{Outcome, outcome, sent}
@@ -20,7 +21,7 @@ use Rattle.rules.specs.declared.Reply.the-variants.{Silent}
 use Rattle.rules.proofs.ButFor.{but-for}
 use Rattle.rules.proofs.Cases.{isHosts, KindCase, refuses, fell, outside, accepts, FrameCase, unread, taken, CallCase, unsoundly, hosts, ticks, stores, frames, call-case, by-sent, sent-silent}
 use Rattle.rules.proofs.Makes.{makes}
-use Rattle.rules.proofs.MarkSteps.{onlyMarks}
+use Rattle.rules.proofs.MarkSteps.{onlyMarks, isFrames, isMarking}
 
 sent-answer : (d : Deed) → sent d .answer ≡ d .answer
 sent-answer d = by-sent (λ o. o .answer ≡ d .answer) d refl (λ f. refl)
@@ -31,13 +32,19 @@ record RefusedDeed (a : Agent) (sync : Bool) (d : Deed) : Type 0 where
   silent : d .reply ≡ Silent
   state : d .agent ≡ changed (rowOf (sync && running a) (d .answer)) a
 
+marking-number : (b : Bool) (n : ℕ) → isMarking b n ≡ true → isRefusal n ≡ true
+marking-number b n h =
+    let e : isFrames n ≡ true = and-left (isFrames n) (onlyMarks (rowOf b n)) h in
+    let high : n ≤ hostInput = omega (arith, leb-true n eightOthers (and-right (leb bodyLength n) (leb n eightOthers) e)) in
+    and-true (leb bodyLength n) (leb n hostInput) (and-left (leb bodyLength n) (leb n eightOthers) e) (le-leb n hostInput high)
+
 hosts-number : (n : ℕ) → isHosts n ≡ true → isRefusal n ≡ true
 hosts-number n h = or-cases (eqb n replyRoom) (eqb n hostInput) h (λ e. rw (eqb-true n replyRoom e) refl) (λ e. rw (eqb-true n hostInput e) refl)
 
 module _ {a : Agent} where
   kind-refused : {f : Frame} {xs : List ℕ} {d : Deed} → KindCase a f xs d → (d .answer ≡ accepted → ⊥) → RefusedDeed a (isSync f) d
   kind-refused {f = f} (refuses n h) z =
-      record { number = and-left (isRefusal n) (onlyMarks (rowOf (isSync f && running a) n)) h; silent = refl; state = refl }
+      record { number = marking-number (isSync f && running a) n h; silent = refl; state = refl }
   kind-refused (fell {cyc = cyc} e) z =
       let run : running a ≡ true = and-left (running a) (not (cycleFits a cyc)) e in
       record { number = refl; silent = refl; state = sym (ap (λ (b : Bool). changed (rowOf b cycle) a) run) }
@@ -46,7 +53,7 @@ module _ {a : Agent} where
 
   frame-refused : {body : List ℕ} {d : Deed} → FrameCase a body d → (d .answer ≡ accepted → ⊥) → RefusedDeed a (readsSync (readOf body)) d
   frame-refused {body = body} (unread n h) z = record {
-    number = and-left (isRefusal n) (onlyMarks (rowOf (readsSync (readOf body) && running a) n)) h;
+    number = marking-number (readsSync (readOf body) && running a) n h;
     silent = refl;
     state = refl;
   }

@@ -1,11 +1,10 @@
 -- What the module reads yields only frames that it serves: a TYP that is not served is 7 before anything else is read,
 -- and a SIL4 assignment is told by its length. Assumes nothing.
-use mathlib.Core.Bool.{Bool, true, false, _&&_}
+use mathlib.Core.Bool.{Bool, true, false}
 use mathlib.Core.Path.{_≡_, refl, sym, ap, _∙_}
 use mathlib.Core.List.{List, _∷_}
 use Prim.Native.Nat.{ℕ}
 use native.Mathlib.Omega.{arith}
-use lib.Dec.{eqb}
 use lib.ListN.{getD}
 use Rattle.base.specs.Bytes.{Bytes, numberAt}
 use Rattle.base.specs.Choice.{choose}
@@ -31,15 +30,15 @@ through true false r f e = record { typ-served = refl; not-sil4 = refl; read = e
 through true true r f e = absurd (let z : _≡_ {A = ℕ} 0 1 = cc in omega arith)
 through false c r f e = absurd (let z : _≡_ {A = ℕ} 0 1 = cc in omega arith)
 
+-- TYP, as it stands at the head of a frame
+pub first-field : (s : List ℕ) (n : ℕ) (fs : List (ℕ × ℕ)) (ws : List ℕ) → fieldsAt s 0 (1 ∷ ws) ≡ (1, n) ∷ fs → numberAt s 0 1 ≡ n
+unfolding fieldsAt
+first-field s n fs ws e = ap (λ (l : List (ℕ × ℕ)). getD (numbers l) 0 0) e
+
 -- a frame that stands in application data whose TYP is served, and that is no SIL4 assignment
 module _ (a : ℕ) (s : List ℕ) (p : served (numberAt s 0 1) ≡ true) (q : isSil4 s ≡ false) where
-  -- TYP, as it stands at the head of the frame
-  first-field : (n : ℕ) (fs : List (ℕ × ℕ)) (ws : List ℕ) → fieldsAt s 0 (1 ∷ ws) ≡ (1, n) ∷ fs → numberAt s 0 1 ≡ n
-  unfolding fieldsAt
-  first-field n fs ws e = ap (λ (l : List (ℕ × ℕ)). getD (numbers l) 0 0) e
-
   unserved : {P : Type 0} (n : ℕ) (fs : List (ℕ × ℕ)) (ws : List ℕ) → fieldsAt s 0 (1 ∷ ws) ≡ (1, n) ∷ fs → served n ≡ false → P
-  unserved n fs ws e h = never (sym h ∙ ap served (sym (first-field n fs ws e)) ∙ p)
+  unserved n fs ws e h = never (sym h ∙ ap served (sym (first-field s n fs ws e)) ∙ p)
 
   standing-served : (f : Frame) → Stands a s f → serves f ≡ true
   unfolding served
@@ -53,9 +52,14 @@ module _ (a : ℕ) (s : List ℕ) (p : served (numberAt s 0 1) ≡ true) (q : is
   standing-served (SafeResponse dest src cyc seq kind datl add stat) st = unserved _ _ _ (st .head) refl
   standing-served (PlainSyncResponse src datl add stat) st = unserved _ _ _ (st .head) refl
   standing-served (PlainResponse src kind datl add) st = unserved _ _ _ (st .head) refl
-  standing-served (SidAssignment4 src sec mac sid sid2 src2) st = never (sym q ∙ rw (first-field _ _ _ (st .head), st .size) refl)
+  standing-served (SidAssignment4 src sec mac sid sid2 src2) st = never (sym q ∙ rw (first-field s _ _ _ (st .head), st .size) refl)
   standing-served (Acknowledgement src dst sec mac) st = unserved _ _ _ (st .head) refl
   standing-served (Invariants dest src cyc seq config logic) st = unserved _ _ _ (st .head) refl
+
+-- a frame that the module reads is the one that the reader of frames reads
+pub reads-frame : (addr : ℕ) (s : List ℕ) (f : Frame) → agentRead addr s ≡ Taken f → readApp addr s ≡ Taken f
+unfolding agentRead
+reads-frame addr s f e = through (served (numberAt s 0 1)) (isSil4 s) (readApp addr s) f e .read
 
 pub reads-served : (addr : ℕ) (s : List ℕ) (f : Frame) → Bytes s → agentRead addr s ≡ Taken f → serves f ≡ true
 unfolding agentRead

@@ -44,22 +44,25 @@ pub data Change : Type 0 where
 abbrev pub isRefusal : ℕ → Bool
 isRefusal n = within bodyLength hostInput n
 
--- the row of a number. 1 to 4 are the line's, 5 and 6 other stations', 7 to 18 a concentrator's, 19 to 21 the host's;
--- 12 has two rows: to a sync in RUN, and to a request
-abbrev pub rowOf : (syncInRun : Bool) → ℕ → Change
-rowOf syncInRun n =
+-- the row of a number; 12 has two, to a sync in RUN and to a request
+abbrev pub rowOf : (toSync : Bool) → ℕ → Change
+rowOf toSync n =
+    -- the line: 1 to 4
     choose (within bodyLength fcs n) lineMark
+    -- other stations: 5 and 6
     (choose (within reserved elsewhere n) nothing
+    -- a concentrator: 7, 8 to 11, 12, 13, 14, 15, 16
     (choose (eqb n typ) formatMark
     (choose (within form addressee n) nothing
-    (choose (eqb n cycle) (choose syncInRun sequenceFall sequenceMark)
+    (choose (eqb n cycle) (choose toSync sequenceFall sequenceMark)
     (choose (eqb n repeat) nothing
     (choose (eqb n outOfOrder) sequenceMark
     (choose (eqb n tooMany) nothing
     (choose (eqb n outsideRules) oneTaken
+    -- 17 and 18; the host: 19 to 21
     nothing))))))))
 
--- numbers of one reason each that leave no trace: 6, 9, 10, 11 and 13
+-- 6, 9, 10, 11 and 13, which leave no trace
 abbrev pub leavesAll : ℕ → Bool
 leavesAll n = eqb n elsewhere || (eqb n crc || (eqb n source || (eqb n addressee || eqb n repeat)))
 
@@ -102,13 +105,13 @@ namesTaken sequenceFall = false
 namesTaken oneTaken = true
 
 -- b is a but for the parts that a change names
-pub record ButFor (c : Change) (a b : Agent) : Type 0 where
-  pub registers : (i : ℕ) → namesRegister c i ≡ false → reg b i ≡ reg a i
+pub record ButFor (row : Change) (a b : Agent) : Type 0 where
+  pub registers : (i : ℕ) → namesRegister row i ≡ false → reg b i ≡ reg a i
   pub size : length (b .regs) ≡ length (a .regs)
-  pub mode : namesMode c ≡ false → b .mode ≡ a .mode
-  pub q : namesMode c ≡ false → b .idle ≡ a .idle
-  pub k : namesTaken c ≡ false → b .taken ≡ a .taken
-  pub c-same : b .cycle ≡ a .cycle
+  pub mode : namesMode row ≡ false → b .mode ≡ a .mode
+  pub q : namesMode row ≡ false → b .idle ≡ a .idle
+  pub k : namesTaken row ≡ false → b .taken ≡ a .taken
+  pub c : b .cycle ≡ a .cycle
   pub heard : b .heard ≡ a .heard
   pub e : b .elapsed ≡ a .elapsed
   pub s : b .silence ≡ a .silence
@@ -135,20 +138,21 @@ raises sequenceFall i = eqb i cptSeq
 raises oneTaken i = false
 
 -- what the parts named are in b
-pub record Makes (c : Change) (a b : Agent) : Type 0 where
-  pub status : reg b statut ≡ statusBy c (reg a statut)
-  pub counters : (i : ℕ) → raises c i ≡ true → reg b i ≡ counter (reg a i)
-  pub fallback : namesMode c ≡ true → (b .mode ≡ inFallback) × (b .idle ≡ 0)
-  pub not-released : namesMode c ≡ true → reg b outRep ≡ withheld
-  pub outputs : namesMode c ≡ true → (i : ℕ) → i < image → reg b (outputsAt + i) ≡ 0
-  pub k : namesTaken c ≡ true → b .taken ≡ a .taken + 1
+pub record Makes (row : Change) (a b : Agent) : Type 0 where
+  pub status : reg b statut ≡ statusBy row (reg a statut)
+  pub counters : (i : ℕ) → raises row i ≡ true → reg b i ≡ counter (reg a i)
+  pub fallback : namesMode row ≡ true → (b .mode ≡ inFallback) × (b .idle ≡ 0)
+  pub not-released : namesMode row ≡ true → reg b outRep ≡ withheld
+  pub outputs : namesMode row ≡ true → (i : ℕ) → i < image → reg b (outputsAt + i) ≡ 0
+  pub k : namesTaken row ≡ true → b .taken ≡ a .taken + 1
 
 -- ---- a refused call
 
--- what the body of a call is read as, whether it is a sync (TYP 00h), and whether it is one in RUN
+-- what the body of a call is read as
 abbrev pub readOf : List ℕ → Read
 readOf body = agentRead (readBody body .addr) (take (readBody body .len) (readBody body .bytes))
 
+-- whether it is a sync (TYP 00h), and whether that comes in RUN
 abbrev pub isSync : Frame → Bool
 isSync f = eqb (getD (numbers (headOf f)) 0 0) 0x00
 

@@ -1,0 +1,53 @@
+-- P8: ticks from power-up, whatever MAC, IID and VER. A law over the count of ticks, so that none is computed.
+-- Assumes nothing.
+use mathlib.Core.Path.{_≡_, refl, ap, _∙_}
+use Prim.Native.Nat.{ℕ, zero, suc, _+_, _%_}
+use native.Mathlib.Omega.{arith}
+use Rattle.base.proofs.Choosing.{choose-true}
+use Rattle.rules.specs.Answers.{accepted, unsound}
+use Rattle.rules.specs.Calls.{tick, tickCall, act}
+use Rattle.rules.specs.Good.{Good}
+use Rattle.rules.specs.PowerUp.{powerRegs, powerUp}
+use Rattle.rules.specs.Registers.{lowBytes}
+use Rattle.rules.specs.Replies.{Outcome, outcome}
+use Rattle.rules.specs.State.{tOf}
+use Rattle.rules.specs.Tick.{ticked}
+use Rattle.rules.specs.declared.Agent.{Agent}
+use Rattle.rules.proofs.CycleClock.{tick-t, tick-early, tick-end}
+use Rattle.rules.proofs.GoodNext.{good-next}
+use Rattle.rules.proofs.GoodStart.{good-start}
+use Rattle.bench.specs.BusCalls.{after, silent}
+
+-- the tick call of a sound agent ticks
+tick-ticks : (a : Agent) → Good a → act a tick .agent ≡ ticked a
+unfolding tickCall
+tick-ticks a g = ap (λ (o : Outcome). o .agent) (choose-true (outcome accepted (ticked a)) (outcome unsound a) (g .sound-is))
+
+-- the last tick of a cycle raises c
+cycle-ends : (n : ℕ) (a : Agent) → Good a → a .elapsed + n + 1 ≡ tOf a → after (silent (suc n)) a .cycle ≡ (a .cycle + 1) % 256
+cycle-ends zero a g e = ap (λ (b : Agent). b .cycle) (tick-ticks a g) ∙ tick-end a (omega arith)
+cycle-ends (suc n) a g e =
+    let b : Agent = act a tick .agent in
+    let s : b ≡ ticked a = tick-ticks a g in
+    let w = tick-early a (omega arith) in
+    let e1 : b .elapsed ≡ a .elapsed + 1 = ap (λ (x : Agent). x .elapsed) s ∙ w .0 in
+    let t1 : tOf b ≡ tOf a = ap tOf s ∙ tick-t a in
+    let c1 : b .cycle ≡ a .cycle = ap (λ (x : Agent). x .cycle) s ∙ w .1 in
+    cycle-ends n b (good-next a tick g tt) (omega arith) ∙ ap (λ (c : ℕ). (c + 1) % 256) c1
+
+start-t : (mac iid ver : ℕ) → tOf (powerUp mac iid ver) ≡ 0xFF
+unfolding powerUp powerRegs lowBytes
+start-t mac iid ver = refl
+
+start-e : (mac iid ver : ℕ) → powerUp mac iid ver .elapsed ≡ 0
+unfolding powerUp
+start-e mac iid ver = refl
+
+start-c : (mac iid ver : ℕ) → powerUp mac iid ver .cycle ≡ 0
+unfolding powerUp
+start-c mac iid ver = refl
+
+pub first-cycle : (mac iid ver : ℕ) → after (silent 255) (powerUp mac iid ver) .cycle ≡ 0x01
+first-cycle mac iid ver =
+    cycle-ends 254 (powerUp mac iid ver) (good-start mac iid ver) (omega (arith, start-t mac iid ver, start-e mac iid ver))
+    ∙ ap (λ (c : ℕ). (c + 1) % 256) (start-c mac iid ver)
