@@ -30,10 +30,10 @@ use Rattle.rules.specs.Replies.{does}
 use Rattle.rules.specs.Requests.{reads, writes}
 use Rattle.rules.specs.Sound.{sound}
 use Rattle.rules.specs.declared.Agent.{Agent}
-use Rattle.demand3.specs.Events.{eventOf}
+use Rattle.demand3.specs.Events.{aTick, eventOf}
 use Rattle.demand3.proofs.AgentViews.{agree-refl, apart-view, line-view, format-view}
 use Rattle.demand3.proofs.AssignmentDid.{tid-did, sid-did}
-use Rattle.demand3.proofs.Effects.{viewOf, Step}
+use Rattle.demand3.proofs.Effects.{Told, told, viewOf, Step}
 use Rattle.demand3.proofs.FrameEvents.{Unheeded, unheeded, Carries, carries}
 use Rattle.demand3.proofs.RegisterViews.{apart-inputs}
 use Rattle.demand3.proofs.RequestDid.{request-did}
@@ -49,7 +49,7 @@ data-length address dest src cyc seq datl add n e =
 
 module _ (a : Agent) (good : Good a) where
   -- ---- by the kind of frame
-  module _ (call : Call) (u : Unheeded call) (port : ℕ) where
+  module _ (call : Told) (u : Unheeded call) (port : ℕ) where
     read-did : (dest src cyc seq datl add : ℕ) (xs : List ℕ) → Carries call (SafeRead dest src cyc seq datl add) xs
         → Shown a call (onKind port a (SafeRead dest src cyc seq datl add) xs)
     read-did dest src cyc seq datl add xs f =
@@ -76,7 +76,7 @@ module _ (a : Agent) (good : Good a) where
     unserved = also a call a (formatMarked a) (format-view a) (refuses a call u 7 refl refl)
 
     kind-did : (f : Frame) (xs : List ℕ) → Carries call f xs → Shown a call (onKind port a f xs)
-    kind-did (Sync src cyc) xs f = sync-did a good call u src cyc xs f port
+    kind-did (Sync src cyc) xs f = sync-did a good call u src cyc (f .amounts 0) port
     kind-did (SafeRead dest src cyc seq datl add) xs f = read-did dest src cyc seq datl add xs f
     kind-did (SafeWrite dest src cyc seq datl add) xs f = write-did dest src cyc seq datl add xs f
     kind-did (TidAssignment src iid tid) xs f = tid-did a call u src iid tid xs f
@@ -112,19 +112,19 @@ module _ (a : Agent) (good : Good a) where
     verdict-did verdict.Reserved b c = refuses a call u 5 refl refl
 
   -- ---- the calls
-  body-did : (port : ℕ) (body : List ℕ) (room : ℕ) → Bytes body → Shown a (frame port body room) (onFrame port a body)
+  body-did : (port : ℕ) (body : List ℕ) (room : ℕ) → Bytes body → Shown a (told (frame port body room)) (onFrame port a body)
   unfolding onFrame onBody
   body-did port body room bytes =
       let b : Body = readBody body in
-      verdict-did (frame port body room) (unheeded port body room) port (b .verdict) b (λ v f e. carries port body room f bytes v e)
+      verdict-did (told (frame port body room)) (unheeded port body room) port (b .verdict) b (λ v f e. carries port body room f bytes v e)
 
   unsound-never : {P : Type 0} → sound a ≡ false → P
   unsound-never e = never (sym e ∙ good .sound-is)
 
-  frame-did : (port : ℕ) (body : List ℕ) (room : ℕ) → Bytes body → Step a (frame port body room) (frameCall a port body room)
+  frame-did : (port : ℕ) (body : List ℕ) (room : ℕ) → Bytes body → Step a (told (frame port body room)) (frameCall a port body room)
   unfolding frameCall
   frame-did port body room bytes =
-      let call : Call = frame port body room in
+      let call : Told = told (frame port body room) in
       let u : Unheeded call = unheeded port body room in
       by-test (Step a call) (sound a)
       (λ h. by-test (Step a call) (ltb room leastRoom) (λ h. refuses a call u 20 refl refl)
@@ -132,21 +132,25 @@ module _ (a : Agent) (good : Good a) where
       (λ h. refuses a call u 21 refl refl)))
       unsound-never
 
-  input-did : (xs : List ℕ) → Step a (input xs) (inputCall a xs)
+  input-did : (xs : List ℕ) → Step a (told (input xs)) (inputCall a xs)
   unfolding inputCall withInputs eventOf
   input-did xs =
-      by-test (Step a (input xs)) (sound a)
-      (λ h. by-test (Step a (input xs)) (eqb (length xs) image)
-      (λ h. keeps a (input xs) 0 (withInputs xs a) refl (apart-view inputsAt xs a (apart-inputs (length xs))))
-      (λ h. keeps a (input xs) 21 a refl (agree-refl (viewOf a))))
+      by-test (Step a (told (input xs))) (sound a)
+      (λ h. by-test (Step a (told (input xs))) (eqb (length xs) image)
+      (λ h. keeps a (told (input xs)) 0 (withInputs xs a) refl (apart-view inputsAt xs a (apart-inputs (length xs))))
+      (λ h. keeps a (told (input xs)) 21 a refl (agree-refl (viewOf a))))
       unsound-never
 
-  tick-step : Step a tick (tickCall a)
+  is-tick : eventOf tick 0 ≡ aTick
+  unfolding eventOf
+  is-tick = refl
+
+  tick-step : Step a (told tick) (tickCall a)
   unfolding tickCall
-  tick-step = by-test (Step a tick) (sound a) (λ h. tick-did a (good .registers)) unsound-never
+  tick-step = by-test (Step a (told tick)) (sound a) (λ h. tick-did a (told tick) is-tick (good .registers)) unsound-never
 
 -- ---- every call on a good agent is one of the effects
-pub step-did : (a : Agent) (call : Call) → Good a → BytesCall call → Step a call (act a call)
+pub step-did : (a : Agent) (call : Call) → Good a → BytesCall call → Step a (told call) (act a call)
 step-did a tick good bytes = tick-step a good
 step-did a (input xs) good bytes = input-did a good xs
 step-did a (frame port body room) good bytes = frame-did a good port body room bytes

@@ -6,17 +6,16 @@ use mathlib.Core.Path.{_≡_}
 use Prim.Native.Nat.{ℕ, _+_, _-_, _*_, _%_, _≤_, _<_}
 use lib.Dec.{eqb, ltb, leb}
 use lib.ListN.{length, getD}
-use lib.Seq.{sets}
-use Rattle.base.specs.Bytes.{Bytes}
 use Rattle.base.specs.Choice.{choose}
 use Rattle.wire.specs.Laying.{bodyOf}
 use Rattle.frames.specs.Kinds.{appOf}
 use Rattle.frames.specs.declared.kinds.Frame.the-variants.{SafeWrite}
-use Rattle.rules.specs.Calls.{Call, tick, input, frame}
+use Rattle.demand3.specs.Numbers.{isAccepted}
+use Rattle.rules.specs.Calls.{Call, frame}
 use Rattle.rules.specs.Fallback.{released, withheld}
 use Rattle.rules.specs.Registers.{outRep, outputsAt, image}
 use Rattle.rules.specs.Replies.{Outcome}
-use Rattle.rules.specs.Requests.{Ask, reads, writes, mostTaken}
+use Rattle.rules.specs.Requests.{mostTaken}
 use Rattle.rules.specs.Sources.{sidOf}
 use Rattle.rules.specs.State.{inRun, inFallback, isHeard, unheard, nobody, reg, tOf, nOf, mOf}
 use Rattle.rules.specs.Tick.{silenceEnd}
@@ -142,27 +141,36 @@ pub record LaidWrite (call : Call) (r : Request) (add : ℕ) (xs : List ℕ) : T
   pub laid : body ≡ bodyOf address (appOf (SafeWrite (r .dest) (r .src) (r .cyc) (r .seq) datl add) xs)
   pub length-is : length xs ≡ datl
 
--- a call on an agent of the view v, answered so, leaves it so
-pub data Did (v : View) (call : Call) : ℕ → View → Type 0 where
-  fellAtTick : eventOf call 0 ≡ aTick → Did v call 0 (fallen (countedOn v))
-  fellAtTickAndEnd : eventOf call 0 ≡ aTick → Did v call 0 (nextCycle (fallen (countedOn v)))
-  tickedOn : eventOf call 0 ≡ aTick → BelowLimits (countedOn v) → Did v call 0 (countedOn v)
-  tickedOnAndEnd : eventOf call 0 ≡ aTick → BelowLimits (countedOn v) → Did v call 0 (nextCycle (countedOn v))
-  kept : (n : ℕ) → eventOf call n ≡ nothing → Did v call n v
-  lost : (n : ℕ) → eventOf call n ≡ nothing → Did v call n (fallen v)
-  heardOnly : (src cyc : ℕ) → eventOf call 0 ≡ aSync src cyc → v .assigned ≡ true → Did v call 0 (hears src cyc v)
-  enteredRun : (src cyc : ℕ) → eventOf call 0 ≡ aSync src cyc → v .assigned ≡ true → v .mode ≡ inFallback → v .rep ≡ released → Did v call 0 (runs (hears src cyc v))
-  takenOnly : (r : Request) → eventOf call 16 ≡ aRefusedWrite r → Due v r → Did v call 16 (takes v)
-  asked : (r : Request) → eventOf call 0 ≡ aRequest r → Due v r → writesOutputs (r .ask) ≡ false → Did v call 0 (takes v)
-  configured : (r : Request) (t n m : ℕ) → eventOf call 0 ≡ aRequest r → Due v r → writesOutputs (r .ask) ≡ false → v .mode ≡ inFallback → Did v call 0 (limits t n m (takes v))
-  releasedBy : (r : Request) → eventOf call 0 ≡ aRequest r → Due v r → writesOutputs (r .ask) ≡ false → ordersRelease (r .ask) ≡ true → Did v call 0 (releases (takes v))
-  withdrawn : (r : Request) → eventOf call 0 ≡ aRequest r → Due v r → writesOutputs (r .ask) ≡ false → Did v call 0 (fallen (takes v))
-  output : (r : Request) (add : ℕ) (xs : List ℕ) → eventOf call 0 ≡ aRequest r → Due v r → writesOutputs (r .ask) ≡ true → v .mode ≡ inRun → LaidWrite call r add xs → Did v call 0 (outputs add xs (takes v))
-  namedFirst : (sid : ℕ) → eventOf call 0 ≡ anAssignment sid → v .assigned ≡ false → Did v call 0 (named sid v)
-  acknowledged : (sid : ℕ) → eventOf call 0 ≡ anAssignment sid → v .assigned ≡ true → Did v call 0 v
+-- a call on a module of the view v, whether it is accepted, and what it means: it leaves the view so
+pub data Did (v : View) (call : Call) (ok : Bool) (means : Event) : View → Type 0 where
+  fellAtTick : means ≡ aTick → Did v call ok means (fallen (countedOn v))
+  fellAtTickAndEnd : means ≡ aTick → Did v call ok means (nextCycle (fallen (countedOn v)))
+  tickedOn : means ≡ aTick → BelowLimits (countedOn v) → Did v call ok means (countedOn v)
+  tickedOnAndEnd : means ≡ aTick → BelowLimits (countedOn v) → Did v call ok means (nextCycle (countedOn v))
+  kept : means ≡ nothing → Did v call ok means v
+  lost : means ≡ nothing → Did v call ok means (fallen v)
+  heardOnly : (src cyc : ℕ) → means ≡ aSync src cyc → v .assigned ≡ true → Did v call ok means (hears src cyc v)
+  enteredRun : (src cyc : ℕ) → means ≡ aSync src cyc → v .assigned ≡ true → v .mode ≡ inFallback → v .rep ≡ released → Did v call ok means (runs (hears src cyc v))
+  takenOnly : (r : Request) → means ≡ aRefusedWrite r → Due v r → Did v call ok means (takes v)
+  asked : (r : Request) → means ≡ aRequest r → Due v r → writesOutputs (r .ask) ≡ false → Did v call ok means (takes v)
+  configured : (r : Request) (t c m : ℕ) → means ≡ aRequest r → Due v r → writesOutputs (r .ask) ≡ false → v .mode ≡ inFallback → Did v call ok means (limits t c m (takes v))
+  releasedBy : (r : Request) → means ≡ aRequest r → Due v r → writesOutputs (r .ask) ≡ false → ordersRelease (r .ask) ≡ true → Did v call ok means (releases (takes v))
+  withdrawn : (r : Request) → means ≡ aRequest r → Due v r → writesOutputs (r .ask) ≡ false → Did v call ok means (fallen (takes v))
+  output : (r : Request) (add : ℕ) (xs : List ℕ) → ok ≡ true → means ≡ aRequest r → Due v r → writesOutputs (r .ask) ≡ true → v .mode ≡ inRun → LaidWrite call r add xs → Did v call ok means (outputs add xs (takes v))
+  namedFirst : (sid : ℕ) → means ≡ anAssignment sid → v .assigned ≡ false → Did v call ok means (named sid v)
+  acknowledged : (sid : ℕ) → means ≡ anAssignment sid → v .assigned ≡ true → Did v call ok means v
+
+-- a call, and what it means by its answer
+pub record Told : Type 0 where
+  pub call : Call
+  pub means : ℕ → Event
+
+-- on a SIL2 module
+abbrev pub told : Call → Told
+told call = record { call = call; means = eventOf call }
 
 -- a step of the rules: one of these, shown by the agent it leaves
-pub record Step (a : Agent) (call : Call) (o : Outcome) : Type 0 where
+pub record Step (a : Agent) (call : Told) (o : Outcome) : Type 0 where
   pub view : View
-  pub did : Did (viewOf a) call (o .answer) view
+  pub did : Did (viewOf a) (call .call) (isAccepted (o .answer)) (call .means (o .answer)) view
   pub shows : Agree (viewOf (o .agent)) view

@@ -7,17 +7,16 @@ use native.Mathlib.Omega.{arith}
 use borrow.Author.Tests.{eqb-true, eqb-false, ltb-false, leb-false, not-false}
 use lib.Dec.{eqb, leb, ltb}
 use Rattle.base.proofs.Choosing.{by-test, and-left, and-right, or-left-false, or-right-false}
-use Rattle.rules.specs.Calls.{Call}
 use Rattle.rules.specs.Good.{Good}
 use Rattle.rules.specs.Marks.{sequenceMarked}
 use Rattle.rules.specs.Requests.{Ask, reads, writes, mostTaken, distance, onAsk, onDistance, onRequest}
 use Rattle.rules.specs.Sources.{sidOf}
 use Rattle.rules.specs.State.{isHeard, nobody, withTaken}
 use Rattle.rules.specs.declared.Agent.{Agent}
-use Rattle.demand3.specs.Events.{aRequest, aRefusedWrite, eventOf, writesOutputs, Request}
+use Rattle.demand3.specs.Events.{aRequest, aRefusedWrite, writesOutputs, Request}
 use Rattle.demand3.specs.Numbers.{firstSeq}
 use Rattle.demand3.proofs.AgentViews.{sequence-view}
-use Rattle.demand3.proofs.Effects.{viewOf, takes, Due, LaidWrite, asked}
+use Rattle.demand3.proofs.Effects.{Told, viewOf, takes, Due, LaidWrite, asked}
 use Rattle.demand3.proofs.FrameEvents.{Unheeded}
 use Rattle.demand3.proofs.SameNumbers.{same-first-seq}
 use Rattle.demand3.proofs.Steps.{Shown, also, read-replied, refuses}
@@ -29,12 +28,12 @@ unfolding distance
 due-number seq cyc k b e = omega (arith, same-first-seq cyc)
 
 -- a call that asks for a write is a body laid down for it
-abbrev pub LaidAsk : Call → Request → Ask → Type 0
+abbrev pub LaidAsk : Told → Request → Ask → Type 0
 LaidAsk call r (reads datl add) = Unit {0}
-LaidAsk call r (writes add xs) = LaidWrite call r add xs
+LaidAsk call r (writes add xs) = LaidWrite (call .call) r add xs
 
-module _ (a : Agent) (good : Good a) (call : Call) (u : Unheeded call) (r : Request) (done : eventOf call 0 ≡ aRequest r)
-    (passed : eventOf call 16 ≡ aRefusedWrite r) (small : r .seq < 256)
+module _ (a : Agent) (good : Good a) (call : Told) (u : Unheeded call) (r : Request) (done : call .means 0 ≡ aRequest r)
+    (passed : call .means 16 ≡ aRefusedWrite r) (small : r .seq < 256)
     (laid : LaidAsk call r (r .ask)) where
   dues : (eqb (r .src) nobody || not (eqb (r .src) (a .last))) ≡ false → not (eqb (r .dest) (sidOf a)) ≡ false
       → not (eqb (a .heard) isHeard && eqb (r .cyc) (a .cycle)) ≡ false → distance (r .seq) (r .cyc) ≡ a .taken

@@ -8,7 +8,6 @@ use borrow.Author.Tests.{eqb-true, eqb-false, not-true}
 use lib.Dec.{eqb}
 use lib.ListN.{length, getD}
 use Rattle.base.proofs.Choosing.{by-test, and-left, and-true, or-cases}
-use Rattle.rules.specs.Calls.{Call}
 use Rattle.rules.specs.Fallback.{released, withheld}
 use Rattle.rules.specs.Good.{Good}
 use Rattle.rules.specs.Requests.{writes}
@@ -18,9 +17,9 @@ use Rattle.rules.specs.Writes.{spanOf, allowed, written, onWrite}
 use Rattle.rules.specs.declared.Agent.{Agent}
 use Rattle.rules.specs.declared.Span.{Span}
 use Rattle.rules.specs.declared.Span.the-variants.{Release, CycleTime, Limits, Counters, Config, Outputs, Outside}
-use Rattle.demand3.specs.Events.{aRequest, aRefusedWrite, eventOf, ordersRelease, writesOutputs, Request}
+use Rattle.demand3.specs.Events.{aRequest, aRefusedWrite, ordersRelease, writesOutputs, Request}
 use Rattle.demand3.proofs.AgentViews.{agree-refl, apart-view, fallen-view, release-view, limits-view, outputs-view}
-use Rattle.demand3.proofs.Effects.{viewOf, Agree, fallen, takes, limits, releases, outputs, Due, LaidWrite, takenOnly, asked, configured, releasedBy, withdrawn, output}
+use Rattle.demand3.proofs.Effects.{Told, viewOf, Agree, fallen, takes, limits, releases, outputs, Due, LaidWrite, takenOnly, asked, configured, releasedBy, withdrawn, output}
 use Rattle.demand3.proofs.RegisterViews.{apart-middle}
 use Rattle.demand3.proofs.SameNumbers.{isRelease, isOutputs, release-order, output-write}
 use Rattle.demand3.proofs.SoundFacts.{two-modes}
@@ -35,9 +34,9 @@ pub taken-view : (a : Agent) → Agree (viewOf (takenBy a)) (takes (viewOf a))
 unfolding sidOf
 taken-view a = agree-refl (takes (viewOf a))
 
-module _ (a : Agent) (good : Good a) (call : Call) (r : Request) (done : eventOf call 0 ≡ aRequest r)
-    (passed : eventOf call 16 ≡ aRefusedWrite r) (due : Due (viewOf a) r) (add : ℕ) (xs : List ℕ) (is : r .ask ≡ writes add xs)
-    (laid : LaidWrite call r add xs) where
+module _ (a : Agent) (good : Good a) (call : Told) (r : Request) (done : call .means 0 ≡ aRequest r)
+    (passed : call .means 16 ≡ aRefusedWrite r) (due : Due (viewOf a) r) (add : ℕ) (xs : List ℕ) (is : r .ask ≡ writes add xs)
+    (laid : LaidWrite (call .call) r add xs) where
   outputs-of : (span : Span) → spanOf add (length xs) ≡ span → writesOutputs (r .ask) ≡ isOutputs span
   outputs-of span e = ap writesOutputs is ∙ output-write add xs ∙ ap isOutputs e
 
@@ -93,7 +92,7 @@ module _ (a : Agent) (good : Good a) (call : Call) (r : Request) (done : eventOf
       let p : InSpan add (length xs) Outputs = in-span add (length xs) Outputs e refl in
       record {
         view = outputs add xs (takes (viewOf a));
-        did = output r add xs done due (outputs-of Outputs e) (eqb-true (a .mode) inRun h) laid;
+        did = output r add xs refl done due (outputs-of Outputs e) (eqb-true (a .mode) inRun h) laid;
         shows = outputs-view (takenBy a) add xs (good .registers) (p .low) (p .high);
       }
 
