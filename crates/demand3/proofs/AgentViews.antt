@@ -4,19 +4,21 @@ use mathlib.Core.Path.{_≡_, refl, sym, _∙_, ap}
 use mathlib.Core.List.{List, [], _∷_}
 use Prim.Native.Nat.{ℕ, _+_, _-_, _^_, _≤_, _<_}
 use native.Mathlib.Omega.{arith}
-use borrow.Author.Tests.{ne-eqb}
+use borrow.Author.Tests.{ne-eqb, leb-true}
 use lib.Bits.{bitAnd, bitOr}
-use lib.Dec.{eqb}
+use lib.Dec.{eqb, leb}
 use lib.ListN.{length, getD, replicate, length-replicate, getD-replicate}
 use lib.Seq.{sets, length-sets}
+use Rattle.base.proofs.Choosing.{and-left, and-right}
 use Rattle.base.proofs.Stored.{stored-in}
 use Rattle.demand3.proofs.StoredPlaces.{stored-outside, stored-choice}
 use Rattle.rules.specs.Fallback.{released, withheld, enterFallback, enterRun}
-use Rattle.rules.specs.Marks.{counter, lineMarked, formatMarked, sequenceMarked}
-use Rattle.rules.specs.Registers.{sidAt, outRep, tcyc, statut, cnfRep, cnfCyc, cptSeq, cptFor, outputsAt, image, lowBytes}
+use Rattle.rules.specs.Marks.{counter}
+use Rattle.rules.specs.Registers.{sidAt, outRep, tcyc, statut, cnfRep, cnfCyc, outputsAt, image, lowBytes}
 use Rattle.rules.specs.Sources.{recorded, sidOf}
 use Rattle.rules.specs.State.{reg, tOf, nOf, mOf, withRegs, withIdle, store, storeAll}
 use Rattle.rules.specs.declared.Agent.{Agent}
+use Rattle.rules.proofs.MarkSteps.{Marks, none, counts}
 use Rattle.demand3.proofs.Effects.{View, viewOf, Agree, fallen, runs, limits, releases, outputs, named}
 use Rattle.demand3.proofs.LowNumbers.{low-number-same, low-number-stored}
 use Rattle.demand3.proofs.RegisterViews.{Same, Apart, apart-same, apart-status, apart-middle}
@@ -90,28 +92,19 @@ apart-view i xs a h = same-view a (sets (a .regs) i xs) (apart-same (a .regs) i 
 pub status-view : (x : ℕ) (a : Agent) → Agree (viewOf (store statut x a)) (viewOf a)
 status-view x a = apart-view statut (x ∷ []) a apart-status
 
-pub line-view : (a : Agent) → Agree (viewOf (lineMarked a)) (viewOf a)
-unfolding lineMarked
-line-view a = status-view (bitOr (reg a statut) 0x20) a
+-- what a refusal marks
+pub marks-view : {a b : Agent} → Marks a b → Agree (viewOf b) (viewOf a)
+marks-view {a = a} none = agree-refl (viewOf a)
+marks-view (Marks.sets {b = b} m e s) = agree-trans (status-view (bitOr (reg b statut) m) b) (marks-view s)
+marks-view (counts {b = b} i x e s) =
+    let low = leb-true 0x1E i (and-left (leb 0x1E i) _ e) in
+    let high = leb-true i 0x24 (and-right (leb 0x1E i) _ e) in
+    agree-trans (apart-view i (counter x ∷ []) b (apart-middle i 1 (omega arith) (omega arith))) (marks-view s)
 
-pub format-view : (a : Agent) → Agree (viewOf (formatMarked a)) (viewOf a)
-unfolding formatMarked
-format-view a =
-    agree-trans
-    (apart-view cptFor (counter (reg a cptFor) ∷ []) (lineMarked a) (apart-middle cptFor 1 (omega arith) (omega arith)))
-    (line-view a)
-
-pub sequence-view : (a : Agent) → Agree (viewOf (sequenceMarked a)) (viewOf a)
-unfolding sequenceMarked
-sequence-view a =
-    let x : ℕ = bitOr (reg a statut) 0x02 in
-    agree-trans
-    (apart-view cptSeq (counter (reg a cptSeq) ∷ []) (store statut x a) (apart-middle cptSeq 1 (omega arith) (omega arith)))
-    (status-view x a)
-
-pub sequence-size : (a : Agent) → length (sequenceMarked a .regs) ≡ length (a .regs)
-unfolding sequenceMarked
-sequence-size a = simp length-sets
+pub marks-size : {a b : Agent} → Marks a b → length (b .regs) ≡ length (a .regs)
+marks-size none = refl
+marks-size (Marks.sets {b = b} m e s) = length-sets (b .regs) statut (bitOr (reg b statut) m ∷ []) ∙ marks-size s
+marks-size (counts {b = b} i x e s) = length-sets (b .regs) i (counter x ∷ []) ∙ marks-size s
 
 -- ---- fallback and RUN
 fallback-view : (a : Agent) → length (a .regs) ≡ 256 → Agree (viewOf (enterFallback a)) (fallen (viewOf a))

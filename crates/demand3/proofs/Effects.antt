@@ -10,7 +10,6 @@ use Rattle.base.specs.Choice.{choose}
 use Rattle.wire.specs.Laying.{bodyOf}
 use Rattle.frames.specs.Kinds.{appOf}
 use Rattle.frames.specs.declared.kinds.Frame.the-variants.{SafeWrite}
-use Rattle.demand3.specs.Numbers.{isAccepted}
 use Rattle.rules.specs.Calls.{Call, frame}
 use Rattle.rules.specs.Fallback.{released, withheld}
 use Rattle.rules.specs.Registers.{outRep, outputsAt, image}
@@ -21,7 +20,8 @@ use Rattle.rules.specs.State.{inRun, inFallback, isHeard, unheard, nobody, reg,
 use Rattle.rules.specs.Tick.{silenceEnd}
 use Rattle.rules.specs.declared.Agent.{Agent}
 use Rattle.demand3.specs.Events.{Event, aTick, aSync, aRequest, aRefusedWrite, anAssignment, nothing, eventOf, ordersRelease, writesOutputs, Request}
-use Rattle.demand3.specs.Numbers.{firstSeq}
+use Rattle.demand3.specs.Numbers.{isAccepted, firstSeq}
+use Rattle.demand3.specs.Sharper.{Brings}
 
 -- the parts of the agent that matter here
 pub record View : Type 0 where
@@ -141,6 +141,10 @@ pub record LaidWrite (call : Call) (r : Request) (add : ℕ) (xs : List ℕ) : T
   pub laid : body ≡ bodyOf address (appOf (SafeWrite (r .dest) (r .src) (r .cyc) (r .seq) datl add) xs)
   pub length-is : length xs ≡ datl
 
+-- the call brings no safe request
+abbrev pub BringsNone : Call → Type 0
+BringsNone call = (src seq : ℕ) → Brings call src seq → ⊥
+
 -- a call on a module of the view v, whether it is accepted, and what it means: it leaves the view so
 pub data Did (v : View) (call : Call) (ok : Bool) (means : Event) : View → Type 0 where
   fellAtTick : means ≡ aTick → Did v call ok means (fallen (countedOn v))
@@ -148,7 +152,7 @@ pub data Did (v : View) (call : Call) (ok : Bool) (means : Event) : View → Typ
   tickedOn : means ≡ aTick → BelowLimits (countedOn v) → Did v call ok means (countedOn v)
   tickedOnAndEnd : means ≡ aTick → BelowLimits (countedOn v) → Did v call ok means (nextCycle (countedOn v))
   kept : means ≡ nothing → Did v call ok means v
-  lost : means ≡ nothing → Did v call ok means (fallen v)
+  lost : means ≡ nothing → BringsNone call → Did v call ok means (fallen v)
   heardOnly : (src cyc : ℕ) → means ≡ aSync src cyc → v .assigned ≡ true → Did v call ok means (hears src cyc v)
   enteredRun : (src cyc : ℕ) → means ≡ aSync src cyc → v .assigned ≡ true → v .mode ≡ inFallback → v .rep ≡ released → Did v call ok means (runs (hears src cyc v))
   takenOnly : (r : Request) → means ≡ aRefusedWrite r → Due v r → Did v call ok means (takes v)

@@ -12,7 +12,6 @@ pub mod Spans
 pub mod SameNumbers
 pub mod WriteDid
 pub mod RequestDid
-pub mod AssignmentDid
 pub mod CallDid
 pub mod Numbering
 pub mod Link
@@ -23,13 +22,13 @@ pub mod KeptOutputs
 pub mod KeptOthers
 pub mod KeptAll
 pub mod Shown
+pub mod Ignored
+pub mod AskedEvents
 pub mod Device
 pub mod BoundedModules
 pub mod SafeIsBounded
 pub mod SafeModules
 pub mod Deposed
-pub mod Refusals
-pub mod Ignores
 pub mod Proved
 pub mod Refuses
 pub mod RefusesWrites

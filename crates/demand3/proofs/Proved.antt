@@ -21,7 +21,7 @@ use Rattle.demand3.proofs.CallDid.{step-did}
 use Rattle.demand3.proofs.Deposed.{sharper}
 use Rattle.demand3.proofs.Device.{HistoryOf, start, step}
 use Rattle.demand3.proofs.Effects.{viewOf}
-use Rattle.demand3.proofs.Ignores.{ignores}
+use Rattle.demand3.proofs.AskedEvents.{means-asked}
 use Rattle.demand3.proofs.SafeModules.{StartsSafe, safeModule, holds}
 use Rattle.demand3.proofs.SoundFacts.{good-facts}
 
@@ -47,7 +47,7 @@ goes-on h a call b g =
     record {
       good = good-next a call (g .good) b;
       made = step call (act a call .answer) (eventOf call (act a call .answer))
-          record { facts = good-facts a (g .good); effect = s .view; did = s .did; shows = s .shows; sound = never-unsound a call (g .good); ignored = ignores a call }
+          record { facts = good-facts a (g .good); effect = s .view; did = s .did; shows = s .shows; sound = never-unsound a call (g .good); asked = means-asked call (act a call .answer) }
           (g .made);
     }
 

@@ -21,7 +21,7 @@ moved v u f call n means (fellAtTickAndEnd ev) a = moves.fellAtTick ev (a .s) (a
 moved v u f call n means (tickedOn ev below) a = moves.tickedOn ev (a .s) record { under = rw (a .s) (below .sync); n = f .n; t = f .t } record { mode = a .mode; rep = a .rep }
 moved v u f call n means (tickedOnAndEnd ev below) a = moves.tickedOn ev (a .s) record { under = rw (a .s) (below .sync); n = f .n; t = f .t } record { mode = a .mode; rep = a .rep }
 moved v u f call n means (kept ev) a = moves.kept (quiet nothing tt ev) (a .s) record { mode = a .mode; rep = a .rep }
-moved v u f call n means (lost ev) a = moves.fell (quiet nothing tt ev) (a .s) (a .rep) (a .mode)
+moved v u f call n means (lost ev none) a = moves.fell (quiet nothing tt ev) (a .s) (a .rep) (a .mode)
 moved v u f call n means (heardOnly src cyc ev known) a = moves.heardOnly src cyc ev (a .s) record { mode = a .mode; rep = a .rep }
 moved v u f call n means (enteredRun src cyc ev known p q) a = moves.enteredRun src cyc ev (a .s) p q (a .mode)
 moved v u f call n means (takenOnly r ev due) a = moves.kept (quiet (aRefusedWrite r) tt ev) (a .s) record { mode = a .mode; rep = a .rep }

@@ -10,13 +10,13 @@ use Rattle.rules.specs.Calls.{Call}
 use Rattle.rules.specs.Fallback.{withheld}
 use Rattle.rules.specs.State.{inFallback, unheard}
 use Rattle.demand3.specs.Claim.{Everywhere, Holds}
-use Rattle.demand3.specs.Events.{Event, aRequest, Request}
+use Rattle.demand3.specs.Events.{Event, Request}
 use Rattle.demand3.specs.History.{History, powerOn, Entry}
-use Rattle.demand3.specs.Sharper.{Takes, Fresh, Brings, Unchanged}
-use Rattle.demand3.specs.Words.{event}
+use Rattle.demand3.specs.Sharper.{Takes, Fresh, Brings}
 use Rattle.demand3.proofs.BoundedModules.{StartsBounded, CallBounded, boundedModule, bounded}
 use Rattle.demand3.proofs.Device.{Device, HistoryOf, of-each, does-as}
 use Rattle.demand3.proofs.Effects.{View, Agree, Facts, Did}
+use Rattle.demand3.proofs.Ignored.{MeansAsked, Ignored, unchanged-by}
 use Rattle.demand3.proofs.KeptAll.{kept-by}
 use Rattle.demand3.proofs.Link.{Linked, Kept, Fine, seenOf, entryOf}
 use Rattle.demand3.proofs.SafeIsBounded.{watchdogOf, moved}
@@ -31,10 +31,6 @@ pub record StartsSafe (v : View) : Type 0 where
   pub heard : v .heard ≡ unheard
   pub assigned : v .assigned ≡ false
 
--- a call that brings a request and is not accepted as that request changes neither an output nor the mode
-abbrev pub Ignored : Entry → Type 0
-Ignored e = (src seq : ℕ) → Brings (e .call) src seq → ((r : Request) → r .src ≡ src → r .seq ≡ seq → event e ≡ aRequest r → ⊥) → Unchanged e
-
 -- one call: an effect, shown by the view u
 pub record CallSafe (v : View) (call : Call) (n : ℕ) (means : Event) (u : View) : Type 0 where
   pub facts : Facts v
@@ -42,7 +38,8 @@ pub record CallSafe (v : View) (call : Call) (n : ℕ) (means : Event) (u : View
   pub did : Did v call (isAccepted n) means effect
   pub shows : Agree u effect
   pub sound : n ≡ unsound → ⊥
-  pub ignored : Ignored (entryOf v call n means u)
+  -- a call that brings a request means that request, or nothing
+  pub asked : (src seq : ℕ) → Brings call src seq → MeansAsked src seq means
 
 -- a safe module
 abbrev pub safeModule : Device
@@ -73,7 +70,7 @@ pub record One (h : History) (e : Entry) : Type 0 where
   pub ignored : Ignored e
 
 known : (h : History) (v u : View) (call : Call) (n : ℕ) (means : Event) → CallSafe v call n means u → Linked h v → One h (entryOf v call n means u)
-known h v u call n means s l = let k = call-kept h v u call n means s l in record { fine = k .fine; fresh = k .fresh; ignored = s .ignored }
+known h v u call n means s l = let k = call-kept h v u call n means s l in record { fine = k .fine; fresh = k .fresh; ignored = λ src seq b not-so. unchanged-by v u call n means src seq b (s .asked src seq b) not-so (s .did) (s .shows) }
 
 pub each-call : {h : History} {v : View} → HistoryOf safeModule h v → Everywhere One h
 each-call = of-each safeModule Linked start-link (λ h v u call n means s l. call-kept h v u call n means s l .link) One known
