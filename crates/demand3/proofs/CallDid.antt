@@ -31,7 +31,7 @@ use Rattle.rules.proofs.Cases.{isHosts, Accepts, heard, read, wrote, renamed, f
 use Rattle.demand3.specs.Events.{aTick, eventOf}
 use Rattle.demand3.specs.Numbers.{isAccepted, accepted, outsideRules}
 use Rattle.demand3.proofs.AgentViews.{agree-refl, apart-view, named-view, recorded-view}
-use Rattle.demand3.proofs.Effects.{Told, told, viewOf, takes, named, asked, takenOnly, namedFirst, acknowledged, Step}
+use Rattle.demand3.proofs.Effects.{Told, told, takes, named, asked, takenOnly, namedFirst, acknowledged, Step}
 use Rattle.demand3.proofs.FrameEvents.{Unheeded, NoTick, unheeded, Carries, carries, sync-brings-none}
 use Rattle.demand3.proofs.RegisterViews.{apart-inputs, apart-tid}
 use Rattle.demand3.proofs.RequestDid.{is-due, at-due, is-laid}
@@ -39,6 +39,7 @@ use Rattle.demand3.proofs.Steps.{Leaves, Shown, untaken, after-reply, k
 use Rattle.demand3.proofs.SyncDid.{synced-did, fell-did}
 use Rattle.demand3.proofs.TickDid.{tick-did}
 use Rattle.demand3.proofs.WriteDid.{taken-view, span-did}
+use Rattle.demand3.proofs.Views.{viewOf}
 
 -- a SID in a frame has 24 bits
 sid-small : (address src sec mac sid n : ℕ) → fits address (SidAssignment src sec mac sid) n ≡ true → sid < 256 ^ 3

@@ -9,8 +9,8 @@ use Rattle.demand3.specs.History.{History, Entry}
 use Rattle.demand3.specs.Sharper.{accepts, Brings, Unchanged, Deposed, by, since, Among, here, there, Sharper}
 use Rattle.demand3.specs.Words.{SyncOf, event, syncAfter, lastSync, taken, Differs, AllDiffer}
 use Rattle.demand3.proofs.Device.{HistoryOf}
-use Rattle.demand3.proofs.Effects.{View}
 use Rattle.demand3.proofs.SafeModules.{safeModule, One, each-call}
+use Rattle.demand3.proofs.Views.{View}
 
 -- ---- the words
 

@@ -8,8 +8,9 @@ use Rattle.demand3.specs.Events.{Event, aTick, aSync, aRequest, aRefused
 use Rattle.demand3.specs.History.{Entry}
 use Rattle.demand3.specs.Sharper.{Brings, Unchanged}
 use Rattle.demand3.specs.Words.{event}
-use Rattle.demand3.proofs.Effects.{View, Agree, Did, fellAtTick, fellAtTickAndEnd, tickedOn, tickedOnAndEnd, kept, lost, heardOnly, enteredRun, takenOnly, asked, configured, releasedBy, withdrawn, output, namedFirst, acknowledged}
+use Rattle.demand3.proofs.Effects.{Did, fellAtTick, fellAtTickAndEnd, tickedOn, tickedOnAndEnd, kept, lost, heardOnly, enteredRun, takenOnly, asked, configured, releasedBy, withdrawn, output, namedFirst, acknowledged}
 use Rattle.demand3.proofs.Link.{entryOf}
+use Rattle.demand3.proofs.Views.{View, Agree}
 
 -- a call that brings a request means that request, or nothing
 abbrev pub MeansAsked : (src seq : ℕ) → Event → Type 0
@@ -34,11 +35,11 @@ module _ (v u : View) (call : Call) (n : ℕ) (means : Event) (src seq : ℕ) (b
   unchanged-by (fellAtTickAndEnd e) a = absurd (subst (MeansAsked src seq) e m)
   unchanged-by (tickedOn e below) a = absurd (subst (MeansAsked src seq) e m)
   unchanged-by (tickedOnAndEnd e below) a = absurd (subst (MeansAsked src seq) e m)
-  unchanged-by (kept e) a = record { outputs = a .out; mode = a .mode }
+  unchanged-by (kept e) a = record { outputs = a .registers .out; mode = a .mode }
   unchanged-by (lost e none) a = absurd (none src seq b)
   unchanged-by (heardOnly s c e known) a = absurd (subst (MeansAsked src seq) e m)
   unchanged-by (enteredRun s c e known p q) a = absurd (subst (MeansAsked src seq) e m)
-  unchanged-by (takenOnly r e due) a = record { outputs = a .out; mode = a .mode }
+  unchanged-by (takenOnly r e due) a = record { outputs = a .registers .out; mode = a .mode }
   unchanged-by (asked r e due w) a = absurd (accepted-so r e)
   unchanged-by (configured r t c l e due w p) a = absurd (accepted-so r e)
   unchanged-by (releasedBy r e due w o) a = absurd (accepted-so r e)

@@ -4,13 +4,14 @@ use Rattle.demand3.specs.Numbers.{isAccepted}
 use Rattle.rules.specs.Calls.{Call}
 use Rattle.demand3.specs.Events.{Event}
 use Rattle.demand3.specs.History.{History}
-use Rattle.demand3.proofs.Effects.{View, Facts, Did, fellAtTick, fellAtTickAndEnd, tickedOn, tickedOnAndEnd, kept, lost, heardOnly, enteredRun, takenOnly, asked, configured, releasedBy, withdrawn, output, namedFirst, acknowledged}
+use Rattle.demand3.proofs.Effects.{Did, fellAtTick, fellAtTickAndEnd, tickedOn, tickedOnAndEnd, kept, lost, heardOnly, enteredRun, takenOnly, asked, configured, releasedBy, withdrawn, output, namedFirst, acknowledged}
 use Rattle.demand3.proofs.KeptOthers.{kept-kept, kept-lost, kept-namedFirst, kept-acknowledged}
 use Rattle.demand3.proofs.KeptOutputs.{kept-output}
 use Rattle.demand3.proofs.KeptRequests.{kept-takenOnly, kept-asked, kept-configured, kept-releasedBy, kept-withdrawn}
 use Rattle.demand3.proofs.KeptSyncs.{kept-heardOnly, kept-enteredRun}
 use Rattle.demand3.proofs.KeptTicks.{kept-fellAtTick, kept-tickedOn, at-cycle-end}
 use Rattle.demand3.proofs.Link.{Linked, Kept}
+use Rattle.demand3.proofs.Views.{View, Facts}
 
 pub kept-by : (h : History) (v : View) → Facts v → Linked h v → (call : Call) (n : ℕ) (means : Event) {w : View} → Did v call (isAccepted n) means w → Kept h v call n means w
 kept-by h v f l call n means (fellAtTick ev) = kept-fellAtTick h v f l call n means ev

@@ -16,9 +16,10 @@ use Rattle.rules.specs.State.{inRun}
 use Rattle.demand3.specs.Claim.{Written, written}
 use Rattle.demand3.specs.Events.{Event, aTick, aRequest, writesOutputs, Request}
 use Rattle.demand3.specs.History.{History}
-use Rattle.demand3.proofs.Effects.{View, Facts, Due, LaidWrite, takes, outputs}
+use Rattle.demand3.proofs.Effects.{Due, LaidWrite, takes, outputs}
 use Rattle.demand3.proofs.Link.{Linked, Kept, entryOf, not-both, no-tick}
 use Rattle.demand3.proofs.KeptRequests.{is-fresh, all-differ, numbered, takes-accepted}
+use Rattle.demand3.proofs.Views.{View, Facts}
 
 -- register j after the bytes xs are written from add on
 abbrev over : ℕ → List ℕ → ℕ → ℕ → ℕ
@@ -60,9 +61,9 @@ module _ (h : History) (v : View) (f : Facts v) (l : Linked h v) (r : Request) (
         own = fresh .own;
         of-sync = fresh .of-sync;
         due = fresh .due;
-        covered = λ i b p q. over-in add xs (outputsAt + i) (v .out i) p q;
-        before = λ i b p. over-before add xs (outputsAt + i) (v .out i) p;
-        behind = λ i b p. over-behind add xs (outputsAt + i) (v .out i) p;
+        covered = λ i b p q. over-in add xs (outputsAt + i) (v .registers .out i) p q;
+        before = λ i b p. over-before add xs (outputsAt + i) (v .registers .out i) p;
+        behind = λ i b p. over-behind add xs (outputsAt + i) (v .registers .out i) p;
       }
 
   pub kept-output : isAccepted n ≡ true → writesOutputs (r .ask) ≡ true → LaidWrite call r add xs → Kept h v call n means (outputs add xs (takes v))

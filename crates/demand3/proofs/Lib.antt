@@ -1,4 +1,5 @@
 pub mod StoredPlaces
+pub mod Views
 pub mod Effects
 pub mod LowNumbers
 pub mod RegisterViews

@@ -16,12 +16,12 @@ use Rattle.demand3.specs.Events.{Event, aTick, aSync, aRequest, aRefused
 use Rattle.demand3.specs.History.{History, _▸_, Entry, Seen}
 use Rattle.demand3.specs.Sharper.{Takes, accepts, refuses, Fresh}
 use Rattle.demand3.specs.Words.{SyncOf, event, lastSync, ownSid, taken, idle, AllDiffer, LeavesRun, TickAtCommandLimit}
-use Rattle.demand3.proofs.Effects.{View, Facts}
 use Rattle.demand3.proofs.Numbering.{Numbering}
+use Rattle.demand3.proofs.Views.{View, Facts}
 
 -- what may be seen of a view, and a call as the history has it
 abbrev pub seenOf : View → Seen
-seenOf v = record { mode = v .mode; out = v .out; t = v .t; n = v .n; m = v .m }
+seenOf v = record { mode = v .mode; out = v .registers .out; t = v .registers .t; n = v .registers .n; m = v .registers .m }
 
 abbrev pub entryOf : View → Call → ℕ → Event → View → Entry
 entryOf v call n ev w = record { call = call; answer = n; event = ev; before = seenOf v; after = seenOf w }
@@ -33,9 +33,9 @@ pub record Naming (assigned : Bool) (sid : ℕ) (I : Option ℕ) : Type 0 where
 
 -- a view against what the history says of: the last sync, the own SID, the numbers taken, the silence of commands
 pub record Link (Y : Option SyncOf) (I : Option ℕ) (tk : List ℕ) (idl : ℕ) (v : View) : Type 0 where
-  pub idle : v .mode ≡ inRun → v .q ≡ idl
-  pub numbering : Numbering (v .heard) (v .c) (v .k) (v .last) Y tk
-  pub naming : Naming (v .assigned) (v .sid) I
+  pub idle : v .mode ≡ inRun → v .clocks .q ≡ idl
+  pub numbering : Numbering (v .cycle .heard) (v .cycle .c) (v .cycle .k) (v .cycle .last) Y tk
+  pub naming : Naming (v .assigned) (v .registers .sid) I
 
 abbrev pub Linked : History → View → Type 0
 Linked h v = Link (lastSync h) (ownSid h) (taken h) (idle h) v
@@ -105,7 +105,7 @@ module _ (h : History) (v : View) (f : Facts v) (call : Call) (n : ℕ) (ev : Ev
       }
 
   -- no tick; mode and outputs stay
-  pub fine-unchanged : w .mode ≡ v .mode → ((i : ℕ) → i < image → w .out i ≡ v .out i) → (ev ≡ aTick → ⊥)
+  pub fine-unchanged : w .mode ≡ v .mode → ((i : ℕ) → i < image → w .registers .out i ≡ v .registers .out i) → (ev ≡ aTick → ⊥)
       → AllDiffer (taken (h ▸ entryOf v call n ev w)) → Fine h (entryOf v call n ev w)
   fine-unchanged mode outs not-tick differ =
       record {

@@ -10,15 +10,17 @@ use Rattle.base.proofs.Choosing.{and-right}
 use Rattle.frames.specs.Writing.{fieldsFit, fits}
 use Rattle.frames.specs.declared.kinds.Frame.the-variants.{SafeWrite}
 use Rattle.rules.specs.Requests.{Ask, writes, distance}
+use Rattle.rules.specs.Sources.{sidOf}
 use Rattle.rules.specs.State.{withTaken}
 use Rattle.rules.specs.declared.Agent.{Agent}
 use Rattle.rules.proofs.Cases.{takenBy, Passes}
 use Rattle.demand3.specs.Events.{Request}
 use Rattle.demand3.specs.Numbers.{firstSeq}
-use Rattle.demand3.proofs.Effects.{Told, viewOf, Due, LaidWrite}
+use Rattle.demand3.proofs.Effects.{Told, Due, LaidWrite}
 use Rattle.demand3.proofs.FrameEvents.{Carries}
 use Rattle.demand3.proofs.SameNumbers.{same-first-seq}
 use Rattle.demand3.proofs.WriteDid.{oneMore}
+use Rattle.demand3.proofs.Views.{viewOf}
 
 abbrev pub asking : (dest src cyc seq : ℕ) → Ask → Request
 asking dest src cyc seq ask = record { dest = dest; src = src; cyc = cyc; seq = seq; ask = ask }
@@ -30,6 +32,7 @@ due-number seq cyc k b e = omega (arith, same-first-seq cyc)
 
 module _ {a : Agent} {dest src cyc seq : ℕ} (p : Passes a dest src cyc seq) where
   pub is-due : (ask : Ask) → seq < 256 → Due (viewOf a) (asking dest src cyc seq ask)
+  unfolding sidOf
   is-due ask small = record {
     last = p .last;
     somebody = λ e. p .somebody (p .last ∙ e);

@@ -15,20 +15,21 @@ use Rattle.demand3.specs.History.{History, powerOn, Entry}
 use Rattle.demand3.specs.Sharper.{Takes, Fresh, Brings}
 use Rattle.demand3.proofs.BoundedModules.{StartsBounded, CallBounded, boundedModule, bounded}
 use Rattle.demand3.proofs.Device.{Device, HistoryOf, of-each, does-as}
-use Rattle.demand3.proofs.Effects.{View, Agree, Facts, Did}
+use Rattle.demand3.proofs.Effects.{Did}
 use Rattle.demand3.proofs.Ignored.{MeansAsked, Ignored, unchanged-by}
 use Rattle.demand3.proofs.KeptAll.{kept-by}
 use Rattle.demand3.proofs.Link.{Linked, Kept, Fine, seenOf, entryOf}
 use Rattle.demand3.proofs.SafeIsBounded.{watchdogOf, moved}
 use Rattle.demand3.proofs.Numbering.{when-unheard}
 use Rattle.demand3.proofs.Shown.{shows-kept}
+use Rattle.demand3.proofs.Views.{View, Agree, Facts}
 
 -- at power-up
 pub record StartsSafe (v : View) : Type 0 where
   pub mode : v .mode ≡ inFallback
-  pub rep : v .rep ≡ withheld
-  pub s : v .s ≡ 0
-  pub heard : v .heard ≡ unheard
+  pub rep : v .registers .rep ≡ withheld
+  pub s : v .clocks .s ≡ 0
+  pub heard : v .cycle .heard ≡ unheard
   pub assigned : v .assigned ≡ false
 
 -- one call: an effect, shown by the view u

@@ -11,7 +11,6 @@ use Rattle.base.proofs.Choosing.{by-test, and-left, and-true, or-cases}
 use Rattle.rules.specs.Fallback.{released, withheld}
 use Rattle.rules.specs.Good.{Good}
 use Rattle.rules.specs.Requests.{writes}
-use Rattle.rules.specs.Sources.{sidOf}
 use Rattle.rules.specs.State.{inRun, running, tOf, nOf, mOf, withTaken, withIdle, storeAll}
 use Rattle.rules.specs.Writes.{spanOf, allowed, written}
 use Rattle.rules.specs.declared.Agent.{Agent}
@@ -20,19 +19,19 @@ use Rattle.rules.specs.declared.Span.the-variants.{Release, CycleTime, Limits, 
 use Rattle.demand3.specs.Events.{aRequest, ordersRelease, writesOutputs, Request}
 use Rattle.demand3.specs.Numbers.{isAccepted}
 use Rattle.demand3.proofs.AgentViews.{agree-refl, apart-view, fallen-view, release-view, limits-view, outputs-view}
-use Rattle.demand3.proofs.Effects.{Told, viewOf, Agree, fallen, takes, limits, releases, outputs, Due, LaidWrite, asked, configured, releasedBy, withdrawn, output}
+use Rattle.demand3.proofs.Effects.{Told, fallen, takes, limits, releases, outputs, Due, LaidWrite, asked, configured, releasedBy, withdrawn, output}
 use Rattle.demand3.proofs.RegisterViews.{apart-middle}
 use Rattle.demand3.proofs.SameNumbers.{isRelease, isOutputs, release-order, output-write}
 use Rattle.demand3.proofs.SoundFacts.{two-modes}
 use Rattle.demand3.proofs.Spans.{InSpan, in-span}
 use Rattle.demand3.proofs.Steps.{Leaves}
+use Rattle.demand3.proofs.Views.{viewOf, Agree}
 
 -- one request more
 abbrev pub oneMore : Agent → Agent
 oneMore a = withTaken (a .taken + 1) a
 
 pub taken-view : (a : Agent) → Agree (viewOf (oneMore a)) (takes (viewOf a))
-unfolding sidOf
 taken-view a = agree-refl (takes (viewOf a))
 
 module _ (a : Agent) (good : Good a) (call : Told) (n : ℕ) (ok : isAccepted n ≡ true) (r : Request) (done : call .means n ≡ aRequest r)
@@ -46,7 +45,6 @@ module _ (a : Agent) (good : Good a) (call : Told) (n : ℕ) (ok : isAccepted n 
 
   -- 17h: 55h releases, AAh means fallback
   release-did : spanOf add (length xs) ≡ Release → allowed Release (oneMore a) add xs ≡ true → Leaves a call n (written Release (oneMore a) add xs)
-  unfolding sidOf
   release-did e h =
       let p : InSpan add (length xs) Release = in-span add (length xs) Release e refl in
       by-test (Leaves a call n) (eqb (getD xs 0 0) withheld)
@@ -66,7 +64,6 @@ module _ (a : Agent) (good : Good a) (call : Told) (n : ℕ) (ok : isAccepted n 
   -- 18h, and 1Ah to 1Dh, in fallback
   settings-did : (span : Span) → spanOf add (length xs) ≡ span → isOutputs span ≡ false → 0x18 ≤ add → add + length xs ≤ 0x80
       → not (running a) ≡ true → Leaves a call n (storeAll add xs (oneMore a))
-  unfolding sidOf
   settings-did span e o low high f =
       let b : Agent = storeAll add xs (oneMore a) in
       record {
@@ -79,7 +76,6 @@ module _ (a : Agent) (good : Good a) (call : Told) (n : ℕ) (ok : isAccepted n 
   -- 1Eh to 24h, and 25h
   counters-did : (span : Span) → spanOf add (length xs) ≡ span → isOutputs span ≡ false → 0x1C ≤ add → add + length xs ≤ 0x80
       → Leaves a call n (storeAll add xs (oneMore a))
-  unfolding sidOf
   counters-did span e o low high = record {
     view = takes (viewOf a);
     did = asked r done due (outputs-of span e ∙ o);
@@ -88,7 +84,6 @@ module _ (a : Agent) (good : Good a) (call : Told) (n : ℕ) (ok : isAccepted n 
 
   -- 80h to BFh, in RUN
   outputs-did : spanOf add (length xs) ≡ Outputs → running a ≡ true → Leaves a call n (withIdle 0 (storeAll add xs (oneMore a)))
-  unfolding sidOf
   outputs-did e h =
       let p : InSpan add (length xs) Outputs = in-span add (length xs) Outputs e refl in
       record {
