@@ -1,152 +1,109 @@
--- What a call does: a step of the rules is one of the effects. Assumes nothing.
-use mathlib.Core.Bool.{true, false, _||_}
-use mathlib.Core.Path.{_≡_, refl, sym, _∙_}
-use mathlib.Core.List.{List}
-use Prim.Native.Nat.{ℕ}
-use borrow.Author.Tests.{eqb-true}
-use lib.Dec.{eqb, ltb}
+-- What a call does: each case of the rules is one of the effects. Assumes nothing.
+use mathlib.Core.Bool.{true, not, _&&_}
+use mathlib.Core.Path.{_≡_, refl, sym, ap, _∙_}
+use mathlib.Core.List.{List, [], _∷_}
+use Prim.Native.Nat.{ℕ, _^_, _<_}
+use borrow.Author.Tests.{ltb-true}
 use lib.ListN.{length}
-use Rattle.base.specs.Bytes.{Bytes}
-use Rattle.base.proofs.Choosing.{by-test, never, and-right}
+use Rattle.base.proofs.Choosing.{by-test, never, choose-true, and-left, and-right}
 use Rattle.wire.specs.Body.{readBody}
-use Rattle.wire.specs.declared.body.Body.{Body}
-use Rattle.wire.specs.declared.body.Verdict.{Verdict}
 use Rattle.wire.specs.declared.body.Verdict.the-variants as verdict
 use Rattle.frames.specs.Kinds.{dataIn}
-use Rattle.frames.specs.Writing.{fieldsFit, fits}
+use Rattle.frames.specs.Writing.{is24, fieldsFit, fits}
 use Rattle.frames.specs.declared.kinds.Frame.{Frame}
-use Rattle.frames.specs.declared.kinds.Frame.the-variants.{Sync, SafeRead, SafeWrite, PlainRead, PlainWrite, SafeResponse, PlainSyncResponse, PlainResponse, TidAssignment, SidAssignment, SidAssignment4, Acknowledgement, Invariants}
-use Rattle.frames.specs.declared.reading.Read.{Read}
-use Rattle.frames.specs.declared.reading.Read.the-variants.{Taken, Kind, Form, Check}
+use Rattle.frames.specs.declared.kinds.Frame.the-variants.{SidAssignment}
+use Rattle.frames.specs.declared.reading.Read.the-variants.{Taken}
 use Rattle.frames.proofs.Receiving.{appIn}
-use Rattle.rules.specs.Answers.{typ}
-use Rattle.rules.specs.Calls.{leastRoom, tickCall, inputCall, frameCall, Call, tick, input, frame, act}
-use Rattle.rules.specs.FrameCall.{onKind, agentRead, onRead, isOwn, onApp, onVerdict, onBody, onFrame}
+use Rattle.rules.specs.Calls.{tickCall, Call, tick, input, frame, act}
 use Rattle.rules.specs.Good.{Good, BytesCall}
 use Rattle.rules.specs.Inputs.{withInputs}
-use Rattle.rules.specs.Marks.{lineMarked, formatMarked}
-use Rattle.rules.specs.Registers.{inputsAt, image}
-use Rattle.rules.specs.Replies.{does}
+use Rattle.rules.specs.Refusals.{isSync, readOf, readsSync}
+use Rattle.rules.specs.Registers.{inputsAt, tidAt}
+use Rattle.rules.specs.Replies.{Outcome}
 use Rattle.rules.specs.Requests.{reads, writes}
 use Rattle.rules.specs.Sound.{sound}
+use Rattle.rules.specs.State.{running, store}
+use Rattle.rules.specs.Writes.{spanOf, allowed, written}
 use Rattle.rules.specs.declared.Agent.{Agent}
-use Rattle.demand3.specs.Events.{eventOf}
-use Rattle.demand3.proofs.AgentViews.{agree-refl, apart-view, line-view, format-view}
-use Rattle.demand3.proofs.AssignmentDid.{tid-did, sid-did}
-use Rattle.demand3.proofs.Effects.{viewOf, Step}
-use Rattle.demand3.proofs.FrameEvents.{Unheeded, unheeded, Carries, carries}
-use Rattle.demand3.proofs.RegisterViews.{apart-inputs}
-use Rattle.demand3.proofs.RequestDid.{request-did}
-use Rattle.demand3.proofs.Steps.{Shown, also, after-reply, keeps, refuses}
-use Rattle.demand3.proofs.SyncDid.{sync-did}
+use Rattle.rules.specs.declared.Deed.{Deed}
+use Rattle.rules.specs.declared.Span.{Span}
+use Rattle.rules.proofs.Cases.{isHosts, Accepts, heard, read, wrote, renamed, first, again, later, KindCase, refuses, fell, outside, accepts, FrameCase, unread, taken, CallCase, unsoundly, hosts, ticks, stores, frames, call-case}
+use Rattle.demand3.specs.Events.{aTick, eventOf}
+use Rattle.demand3.specs.Numbers.{isAccepted, accepted, outsideRules}
+use Rattle.demand3.proofs.AgentViews.{agree-refl, apart-view, named-view, recorded-view}
+use Rattle.demand3.proofs.Effects.{Told, told, takes, named, asked, takenOnly, namedFirst, acknowledged, Step}
+use Rattle.demand3.proofs.FrameEvents.{Unheeded, NoTick, unheeded, Carries, carries, sync-brings-none}
+use Rattle.demand3.proofs.RegisterViews.{apart-inputs, apart-tid}
+use Rattle.demand3.proofs.RequestDid.{is-due, at-due, is-laid}
+use Rattle.demand3.proofs.Steps.{Leaves, Shown, untaken, after-reply, keeps, refused}
+use Rattle.demand3.proofs.SyncDid.{synced-did, fell-did}
 use Rattle.demand3.proofs.TickDid.{tick-did}
+use Rattle.demand3.proofs.WriteDid.{taken-view, span-did}
+use Rattle.demand3.proofs.Views.{viewOf}
 
--- a write has as many data bytes as it says
-data-length : (address dest src cyc seq datl add n : ℕ) → fits address (SafeWrite dest src cyc seq datl add) n ≡ true → n ≡ datl
-unfolding fits
-data-length address dest src cyc seq datl add n e =
-    eqb-true n datl (and-right (fieldsFit address (SafeWrite dest src cyc seq datl add)) _ e)
+-- a SID in a frame has 24 bits
+sid-small : (address src sec mac sid n : ℕ) → fits address (SidAssignment src sec mac sid) n ≡ true → sid < 256 ^ 3
+unfolding fits fieldsFit
+sid-small address src sec mac sid n e = ltb-true sid (256 ^ 3) (and-right (is24 src) (is24 sid) (and-left (is24 src && is24 sid) _ e))
 
-module _ (a : Agent) (good : Good a) where
-  -- ---- by the kind of frame
-  module _ (call : Call) (u : Unheeded call) (port : ℕ) where
-    read-did : (dest src cyc seq datl add : ℕ) (xs : List ℕ) → Carries call (SafeRead dest src cyc seq datl add) xs
-        → Shown a call (onKind port a (SafeRead dest src cyc seq datl add) xs)
-    read-did dest src cyc seq datl add xs f =
-        request-did a good call u record { dest = dest; src = src; cyc = cyc; seq = seq; ask = reads datl add } (f .amounts 0) (f .amounts 16) (f .sized .3)
-        tt port
+module _ {a : Agent} (good : Good a) where
+  -- ---- a frame, whatever the call that brought it
+  module _ {call : Told} where
+    -- accepted with any number that accepts
+    accepted-did : {f : Frame} {xs : List ℕ} {b : Agent} (n : ℕ) → isAccepted n ≡ true → Carries call f xs → Accepts a f xs b → Leaves a call n b
+    accepted-did n ok c (heard k) = synced-did good call n (c .amounts n ∙ choose-true _ _ ok) k
+    accepted-did n ok c (read {datl = datl} {add = add} p) =
+        at-due p (Leaves a call n)
+        record { view = takes (viewOf a); did = asked _ (c .amounts n ∙ choose-true _ _ ok) (is-due p (reads datl add) (c .sized .3)) refl; shows = taken-view a }
+    accepted-did n ok c (wrote {add = add} {xs = xs} p e) =
+        let s : Span = spanOf add (length xs) in
+        at-due p (λ b. allowed s b add xs ≡ true → Leaves a call n (written s b add xs))
+        (span-did a good call n ok _ (c .amounts n ∙ choose-true _ _ ok) (is-due p (writes add xs) (c .sized .3)) add xs refl (is-laid c) s refl) e
+    accepted-did n ok c (renamed {tid = tid} e) = keeps n (store tidAt tid a) (c .amounts n) (apart-view tidAt (tid ∷ []) a apart-tid)
+    accepted-did n ok c (first {src = src} {sec = sec} {mac = mac} {sid = sid} {xs = xs} s none i) = record {
+      view = named sid (viewOf a);
+      did = namedFirst sid (c .amounts n ∙ choose-true _ _ ok) (ap not none);
+      shows = named-view a src sid (good .registers) (sid-small (c .address) src sec mac sid (length xs) (c .fit));
+    }
+    accepted-did n ok c (again {sid = sid} some) =
+        record { view = viewOf a; did = acknowledged sid (c .amounts n ∙ choose-true _ _ ok) (ap not some); shows = agree-refl (viewOf a) }
+    accepted-did n ok c (later {src = src} {sid = sid} s some i e) =
+        record { view = viewOf a; did = acknowledged sid (c .amounts n ∙ choose-true _ _ ok) (ap not some); shows = recorded-view a src some }
 
-    write-did : (dest src cyc seq datl add : ℕ) (xs : List ℕ) → Carries call (SafeWrite dest src cyc seq datl add) xs
-        → Shown a call (onKind port a (SafeWrite dest src cyc seq datl add) xs)
-    write-did dest src cyc seq datl add xs f =
-        request-did a good call u record { dest = dest; src = src; cyc = cyc; seq = seq; ask = writes add xs } (f .amounts 0) (f .amounts 16) (f .sized .3)
-        record {
-          port = f .port;
-          body = f .body;
-          room = f .room;
-          address = f .address;
-          datl = datl;
-          called = f .called;
-          laid = f .laid;
-          length-is = data-length (f .address) dest src cyc seq datl add (length xs) (f .fit);
-        }
-        port
+    kind-did : {f : Frame} {xs : List ℕ} {d : Deed} → Unheeded call → Carries call f xs → KindCase a f xs d → Shown a call d
+    kind-did {f = f} u c (refuses n h) = refused u (isSync f && running a) n h
+    kind-did u c (fell e) = fell-did good call u (sync-brings-none c)
+    kind-did u c (outside {add = add} {xs = xs} p) =
+        at-due p (Leaves a call outsideRules)
+        record { view = takes (viewOf a); did = takenOnly _ (c .amounts outsideRules) (is-due p (writes add xs) (c .sized .3)); shows = taken-view a }
+    kind-did u c (accepts e) = accepted-did accepted refl c e
 
-    unserved : Shown a call (does typ (formatMarked a))
-    unserved = also a call a (formatMarked a) (format-view a) (refuses a call u 7 refl refl)
-
-    kind-did : (f : Frame) (xs : List ℕ) → Carries call f xs → Shown a call (onKind port a f xs)
-    kind-did (Sync src cyc) xs f = sync-did a good call u src cyc xs f port
-    kind-did (SafeRead dest src cyc seq datl add) xs f = read-did dest src cyc seq datl add xs f
-    kind-did (SafeWrite dest src cyc seq datl add) xs f = write-did dest src cyc seq datl add xs f
-    kind-did (TidAssignment src iid tid) xs f = tid-did a call u src iid tid xs f
-    kind-did (SidAssignment src sec mac sid) xs f = sid-did a call u (good .registers) src sec mac sid xs f
-    kind-did (PlainRead src datl add) xs f = unserved
-    kind-did (PlainWrite src datl add) xs f = unserved
-    kind-did (SafeResponse dest src cyc seq kind datl add stat) xs f = unserved
-    kind-did (PlainSyncResponse src datl add stat) xs f = unserved
-    kind-did (PlainResponse src kind datl add) xs f = unserved
-    kind-did (SidAssignment4 src sec mac sid sid2 src2) xs f = refuses a call u 8 refl refl
-    kind-did (Acknowledgement src dst sec mac) xs f = unserved
-    kind-did (Invariants dest src cyc seq config logic) xs f = unserved
-
-    -- ---- by what the module read, and by the verdict on the body
-    read-of : (r : Read) (s : List ℕ) → ((f : Frame) → r ≡ Taken f → Carries call f (dataIn f s)) → Shown a call (onRead port a r s)
-    read-of (Taken f) s c = kind-did f (dataIn f s) (c f refl)
-    read-of Kind s c = unserved
-    read-of Form s c = refuses a call u 8 refl refl
-    read-of Check s c = refuses a call u 9 refl refl
-
-    app-did : (addr : ℕ) (s : List ℕ) → ((f : Frame) → agentRead addr s ≡ Taken f → Carries call f (dataIn f s)) → Shown a call (onApp port a addr s)
-    unfolding onApp
-    app-did addr s c = by-test (Shown a call) (isOwn a addr) (λ h. read-of (agentRead addr s) s c) (λ h. refuses a call u 6 refl refl)
-
-    verdict-did : (v : Verdict) (b : Body)
-        → (v ≡ verdict.Taken → (f : Frame) → agentRead (b .addr) (appIn b) ≡ Taken f → Carries call f (dataIn f (appIn b)))
-        → Shown a call (onVerdict port a v b)
-    verdict-did verdict.Taken b c = app-did (b .addr) (appIn b) (c refl)
-    verdict-did verdict.Length b c = also a call a (lineMarked a) (line-view a) (refuses a call u 1 refl refl)
-    verdict-did verdict.Stuffing b c = also a call a (lineMarked a) (line-view a) (refuses a call u 2 refl refl)
-    verdict-did verdict.Size b c = also a call a (lineMarked a) (line-view a) (refuses a call u 3 refl refl)
-    verdict-did verdict.Check b c = also a call a (lineMarked a) (line-view a) (refuses a call u 4 refl refl)
-    verdict-did verdict.Reserved b c = refuses a call u 5 refl refl
+    pub frame-did : {body : List ℕ} {d : Deed} → Unheeded call
+        → ((f : Frame) → readBody body .verdict ≡ verdict.Taken → readOf body ≡ Taken f → Carries call f (dataIn f (appIn (readBody body))))
+        → FrameCase a body d → Shown a call d
+    frame-did {body = body} u c (unread n h) = refused u (readsSync (readOf body) && running a) n h
+    frame-did u c (taken f v e k) = kind-did u (c f v e) k
 
   -- ---- the calls
-  body-did : (port : ℕ) (body : List ℕ) (room : ℕ) → Bytes body → Shown a (frame port body room) (onFrame port a body)
-  unfolding onFrame onBody
-  body-did port body room bytes =
-      let b : Body = readBody body in
-      verdict-did (frame port body room) (unheeded port body room) port (b .verdict) b (λ v f e. carries port body room f bytes v e)
+  call-did : {call : Call} {o : Outcome} → BytesCall call → NoTick call → CallCase a call o → Step a (told call) o
+  unfolding eventOf withInputs
+  call-did b other (unsoundly e) = never (sym e ∙ good .sound-is)
+  call-did {call = call} b other (hosts n h) = keeps n a (unheeded call other n (untaken isHosts n h refl refl)) (agree-refl (viewOf a))
+  call-did b other ticks = absurd other
+  call-did b other (stores {xs = xs} e) = keeps accepted (withInputs xs a) refl (apart-view inputsAt xs a (apart-inputs (length xs)))
+  call-did b other (frames {port = port} {room = room} {body = body} {d = d} c) =
+      after-reply d (frame-did (unheeded (frame port body room) other) (λ f v e. carries port body room f b v e) c)
 
-  unsound-never : {P : Type 0} → sound a ≡ false → P
-  unsound-never e = never (sym e ∙ good .sound-is)
+  is-tick : eventOf tick accepted ≡ aTick
+  unfolding eventOf
+  is-tick = refl
 
-  frame-did : (port : ℕ) (body : List ℕ) (room : ℕ) → Bytes body → Step a (frame port body room) (frameCall a port body room)
-  unfolding frameCall
-  frame-did port body room bytes =
-      let call : Call = frame port body room in
-      let u : Unheeded call = unheeded port body room in
-      by-test (Step a call) (sound a)
-      (λ h. by-test (Step a call) (ltb room leastRoom) (λ h. refuses a call u 20 refl refl)
-      (λ h. by-test (Step a call) (eqb port 1 || eqb port 2) (λ h. after-reply a call (onFrame port a body) (body-did port body room bytes))
-      (λ h. refuses a call u 21 refl refl)))
-      unsound-never
-
-  input-did : (xs : List ℕ) → Step a (input xs) (inputCall a xs)
-  unfolding inputCall withInputs eventOf
-  input-did xs =
-      by-test (Step a (input xs)) (sound a)
-      (λ h. by-test (Step a (input xs)) (eqb (length xs) image)
-      (λ h. keeps a (input xs) 0 (withInputs xs a) refl (apart-view inputsAt xs a (apart-inputs (length xs))))
-      (λ h. keeps a (input xs) 21 a refl (agree-refl (viewOf a))))
-      unsound-never
-
-  tick-step : Step a tick (tickCall a)
+  tick-step : Step a (told tick) (tickCall a)
   unfolding tickCall
-  tick-step = by-test (Step a tick) (sound a) (λ h. tick-did a (good .registers)) unsound-never
+  tick-step = by-test (Step a (told tick)) (sound a) (λ h. tick-did a (told tick) accepted is-tick (good .registers)) (λ e. never (sym e ∙ good .sound-is))
 
 -- ---- every call on a good agent is one of the effects
-pub step-did : (a : Agent) (call : Call) → Good a → BytesCall call → Step a call (act a call)
-step-did a tick good bytes = tick-step a good
-step-did a (input xs) good bytes = input-did a good xs
-step-did a (frame port body room) good bytes = frame-did a good port body room bytes
+pub step-did : (a : Agent) (call : Call) → Good a → BytesCall call → Step a (told call) (act a call)
+step-did a tick good bytes = tick-step good
+step-did a (input xs) good bytes = call-did good bytes tt (call-case a (input xs))
+step-did a (frame port body room) good bytes = call-did good bytes tt (call-case a (frame port body room))

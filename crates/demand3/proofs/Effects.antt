@@ -1,135 +1,115 @@
 -- What a call can do to the parts of the agent that demand 3 is about: one case for each kind of effect. The rules are
 -- taken apart once to show that every call is one of these; what stands above looks at nothing else. Assumes nothing.
-use mathlib.Core.Bool.{Bool, true, false, not}
+use mathlib.Core.Bool.{Bool, true, false}
 use mathlib.Core.List.{List}
 use mathlib.Core.Path.{_≡_}
-use Prim.Native.Nat.{ℕ, _+_, _-_, _*_, _%_, _≤_, _<_}
+use Prim.Native.Nat.{ℕ, _+_, _-_, _*_, _%_, _<_}
 use lib.Dec.{eqb, ltb, leb}
 use lib.ListN.{length, getD}
-use lib.Seq.{sets}
-use Rattle.base.specs.Bytes.{Bytes}
 use Rattle.base.specs.Choice.{choose}
 use Rattle.wire.specs.Laying.{bodyOf}
 use Rattle.frames.specs.Kinds.{appOf}
 use Rattle.frames.specs.declared.kinds.Frame.the-variants.{SafeWrite}
-use Rattle.rules.specs.Calls.{Call, tick, input, frame}
+use Rattle.rules.specs.Calls.{Call, frame}
 use Rattle.rules.specs.Fallback.{released, withheld}
-use Rattle.rules.specs.Registers.{outRep, outputsAt, image}
+use Rattle.rules.specs.Registers.{outputsAt}
 use Rattle.rules.specs.Replies.{Outcome}
-use Rattle.rules.specs.Requests.{Ask, reads, writes, mostTaken}
-use Rattle.rules.specs.Sources.{sidOf}
-use Rattle.rules.specs.State.{inRun, inFallback, isHeard, unheard, nobody, reg, tOf, nOf, mOf}
+use Rattle.rules.specs.Requests.{mostTaken}
+use Rattle.rules.specs.State.{inRun, inFallback, isHeard, unheard, nobody}
 use Rattle.rules.specs.Tick.{silenceEnd}
 use Rattle.rules.specs.declared.Agent.{Agent}
 use Rattle.demand3.specs.Events.{Event, aTick, aSync, aRequest, aRefusedWrite, anAssignment, nothing, eventOf, ordersRelease, writesOutputs, Request}
-use Rattle.demand3.specs.Numbers.{firstSeq}
+use Rattle.demand3.specs.Numbers.{isAccepted, firstSeq}
+use Rattle.demand3.specs.Sharper.{Brings}
+use Rattle.demand3.proofs.Views.{Registers, Cycle, Clocks, View, viewOf, Agree}
 
--- the parts of the agent that matter here
-pub record View : Type 0 where
-  pub mode : ℕ
-  pub rep : ℕ
-  pub t : ℕ
-  pub n : ℕ
-  pub m : ℕ
-  pub out : ℕ → ℕ
-  pub sid : ℕ
-  pub assigned : Bool
-  pub last : ℕ
-  pub heard : ℕ
-  pub c : ℕ
-  pub k : ℕ
-  pub s : ℕ
-  pub q : ℕ
+-- ---- the effects, part by part
 
-abbrev pub viewOf : Agent → View
-viewOf a = record {
-  mode = a .mode;
-  rep = reg a outRep;
-  t = tOf a;
-  n = nOf a;
-  m = mOf a;
-  out = λ i. reg a (outputsAt + i);
-  sid = sidOf a;
-  assigned = not (eqb (a .count) 0);
-  last = a .last;
-  heard = a .heard;
-  c = a .cycle;
-  k = a .taken;
-  s = a .silence;
-  q = a .idle;
-}
+abbrev cold : Registers → Registers
+cold r = record { rep = withheld; t = r .t; n = r .n; m = r .m; out = λ i. 0; sid = r .sid }
 
--- two views agree, the outputs one by one
-pub record Agree (v w : View) : Type 0 where
-  pub mode : v .mode ≡ w .mode
-  pub rep : v .rep ≡ w .rep
-  pub t : v .t ≡ w .t
-  pub n : v .n ≡ w .n
-  pub m : v .m ≡ w .m
-  pub out : (i : ℕ) → i < image → v .out i ≡ w .out i
-  pub sid : v .sid ≡ w .sid
-  pub assigned : v .assigned ≡ w .assigned
-  pub last : v .last ≡ w .last
-  pub heard : v .heard ≡ w .heard
-  pub c : v .c ≡ w .c
-  pub k : v .k ≡ w .k
-  pub s : v .s ≡ w .s
-  pub q : v .q ≡ w .q
+abbrev withRep : ℕ → Registers → Registers
+withRep rep r = record { rep = rep; t = r .t; n = r .n; m = r .m; out = r .out; sid = r .sid }
 
--- what a sound state says of its view
-pub record Facts (v : View) : Type 0 where
-  pub modes : (v .mode ≡ inRun → ⊥) → v .mode ≡ inFallback
-  pub cold : v .mode ≡ inFallback → (i : ℕ) → i < image → v .out i ≡ 0
-  pub t : v .t ≤ 255
-  pub n : v .n ≤ 255
-  pub known : (v .last ≡ nobody → ⊥) → v .assigned ≡ true
+abbrev withLimits : ℕ → ℕ → ℕ → Registers → Registers
+withLimits t n m r = record { rep = r .rep; t = t; n = n; m = m; out = r .out; sid = r .sid }
 
--- ---- the effects
-abbrev pub fallen : View → View
-fallen v = record { mode = inFallback; rep = withheld; t = v .t; n = v .n; m = v .m; out = λ i. 0; sid = v .sid; assigned = v .assigned; last = v .last; heard = v .heard; c = v .c; k = v .k; s = v .s; q = 0 }
-
-abbrev pub countedOn : View → View
-countedOn v = record { mode = v .mode; rep = v .rep; t = v .t; n = v .n; m = v .m; out = v .out; sid = v .sid; assigned = v .assigned; last = v .last; heard = v .heard; c = v .c; k = v .k; s = choose (ltb (v .s) silenceEnd) (v .s + 1) silenceEnd; q = choose (eqb (v .mode) inRun) (v .q + 1) (v .q) }
-
-abbrev pub nextCycle : View → View
-nextCycle v = record { mode = v .mode; rep = v .rep; t = v .t; n = v .n; m = v .m; out = v .out; sid = v .sid; assigned = v .assigned; last = v .last; heard = unheard; c = (v .c + 1) % 256; k = 0; s = v .s; q = v .q }
-
-abbrev pub hears : ℕ → ℕ → View → View
-hears src cyc v = record { mode = v .mode; rep = v .rep; t = v .t; n = v .n; m = v .m; out = v .out; sid = v .sid; assigned = v .assigned; last = src; heard = isHeard; c = cyc; k = 0; s = 0; q = v .q }
-
-abbrev pub runs : View → View
-runs v = record { mode = inRun; rep = v .rep; t = v .t; n = v .n; m = v .m; out = v .out; sid = v .sid; assigned = v .assigned; last = v .last; heard = v .heard; c = v .c; k = v .k; s = v .s; q = 0 }
-
-abbrev pub takes : View → View
-takes v = record { mode = v .mode; rep = v .rep; t = v .t; n = v .n; m = v .m; out = v .out; sid = v .sid; assigned = v .assigned; last = v .last; heard = v .heard; c = v .c; k = v .k + 1; s = v .s; q = v .q }
-
-abbrev pub limits : ℕ → ℕ → ℕ → View → View
-limits t n m v = record { mode = v .mode; rep = v .rep; t = t; n = n; m = m; out = v .out; sid = v .sid; assigned = v .assigned; last = v .last; heard = v .heard; c = v .c; k = v .k; s = v .s; q = v .q }
-
-abbrev pub releases : View → View
-releases v = record { mode = v .mode; rep = released; t = v .t; n = v .n; m = v .m; out = v .out; sid = v .sid; assigned = v .assigned; last = v .last; heard = v .heard; c = v .c; k = v .k; s = v .s; q = v .q }
+abbrev withSid : ℕ → Registers → Registers
+withSid sid r = record { rep = r .rep; t = r .t; n = r .n; m = r .m; out = r .out; sid = sid }
 
 -- the bytes xs from register add on
+abbrev stored : ℕ → List ℕ → Registers → Registers
+stored add xs r = record {
+  rep = r .rep;
+  t = r .t;
+  n = r .n;
+  m = r .m;
+  out = λ i. choose (leb add (outputsAt + i)) (choose (ltb (outputsAt + i) (add + length xs)) (getD xs (outputsAt + i - add) 0) (r .out i)) (r .out i);
+  sid = r .sid;
+}
+
+-- q from 0 on
+abbrev commanded : Clocks → Clocks
+commanded x = record { s = x .s; q = 0 }
+
+-- one tick, in that mode
+abbrev counted : ℕ → Clocks → Clocks
+counted mode x = record { s = choose (ltb (x .s) silenceEnd) (x .s + 1) silenceEnd; q = choose (eqb mode inRun) (x .q + 1) (x .q) }
+
+abbrev withRegisters : Registers → View → View
+withRegisters r v = record { mode = v .mode; assigned = v .assigned; registers = r; cycle = v .cycle; clocks = v .clocks }
+
+abbrev withCycle : Cycle → View → View
+withCycle y v = record { mode = v .mode; assigned = v .assigned; registers = v .registers; cycle = y; clocks = v .clocks }
+
+abbrev withClocks : Clocks → View → View
+withClocks x v = record { mode = v .mode; assigned = v .assigned; registers = v .registers; cycle = v .cycle; clocks = x }
+
+-- ---- and of the view
+abbrev pub fallen : View → View
+fallen v = record { mode = inFallback; assigned = v .assigned; registers = cold (v .registers); cycle = v .cycle; clocks = commanded (v .clocks) }
+
+abbrev pub countedOn : View → View
+countedOn v = withClocks (counted (v .mode) (v .clocks)) v
+
+abbrev pub nextCycle : View → View
+nextCycle v = withCycle (record { last = v .cycle .last; heard = unheard; c = (v .cycle .c + 1) % 256; k = 0 }) v
+
+abbrev pub hears : ℕ → ℕ → View → View
+hears src cyc v = withCycle (record { last = src; heard = isHeard; c = cyc; k = 0 }) (withClocks (record { s = 0; q = v .clocks .q }) v)
+
+abbrev pub runs : View → View
+runs v = record { mode = inRun; assigned = v .assigned; registers = v .registers; cycle = v .cycle; clocks = commanded (v .clocks) }
+
+abbrev pub takes : View → View
+takes v = withCycle (record { last = v .cycle .last; heard = v .cycle .heard; c = v .cycle .c; k = v .cycle .k + 1 }) v
+
+abbrev pub limits : ℕ → ℕ → ℕ → View → View
+limits t n m v = withRegisters (withLimits t n m (v .registers)) v
+
+abbrev pub releases : View → View
+releases v = withRegisters (withRep released (v .registers)) v
+
 abbrev pub outputs : ℕ → List ℕ → View → View
-outputs add xs v = record { mode = v .mode; rep = v .rep; t = v .t; n = v .n; m = v .m; out = λ i. choose (leb add (outputsAt + i)) (choose (ltb (outputsAt + i) (add + length xs)) (getD xs (outputsAt + i - add) 0) (v .out i)) (v .out i); sid = v .sid; assigned = v .assigned; last = v .last; heard = v .heard; c = v .c; k = v .k; s = v .s; q = 0 }
+outputs add xs v = withRegisters (stored add xs (v .registers)) (withClocks (commanded (v .clocks)) v)
 
 abbrev pub named : ℕ → View → View
-named sid v = record { mode = v .mode; rep = v .rep; t = v .t; n = v .n; m = v .m; out = v .out; sid = sid; assigned = true; last = v .last; heard = v .heard; c = v .c; k = v .k; s = v .s; q = v .q }
+named sid v = record { mode = v .mode; assigned = true; registers = withSid sid (v .registers); cycle = v .cycle; clocks = v .clocks }
 
 -- a request with the number due
 pub record Due (v : View) (r : Request) : Type 0 where
-  pub last : r .src ≡ v .last
-  pub somebody : v .last ≡ nobody → ⊥
-  pub sid : r .dest ≡ v .sid
-  pub heard : v .heard ≡ isHeard
-  pub cyc : r .cyc ≡ v .c
-  pub seq : r .seq ≡ (firstSeq (v .c) + v .k) % 256
-  pub few : v .k < mostTaken
+  pub last : r .src ≡ v .cycle .last
+  pub somebody : v .cycle .last ≡ nobody → ⊥
+  pub sid : r .dest ≡ v .registers .sid
+  pub heard : v .cycle .heard ≡ isHeard
+  pub cyc : r .cyc ≡ v .cycle .c
+  pub seq : r .seq ≡ (firstSeq (v .cycle .c) + v .cycle .k) % 256
+  pub few : v .cycle .k < mostTaken
 
 -- a tick stays below both limits
 pub record BelowLimits (v : View) : Type 0 where
-  pub sync : v .s < v .n * v .t
-  pub command : v .mode ≡ inRun → v .q < v .m * v .t
+  pub sync : v .clocks .s < v .registers .n * v .registers .t
+  pub command : v .mode ≡ inRun → v .clocks .q < v .registers .m * v .registers .t
 
 -- the call is a body laid down for a write
 pub record LaidWrite (call : Call) (r : Request) (add : ℕ) (xs : List ℕ) : Type 0 where
@@ -142,27 +122,40 @@ pub record LaidWrite (call : Call) (r : Request) (add : ℕ) (xs : List ℕ) : T
   pub laid : body ≡ bodyOf address (appOf (SafeWrite (r .dest) (r .src) (r .cyc) (r .seq) datl add) xs)
   pub length-is : length xs ≡ datl
 
--- a call on an agent of the view v, answered so, leaves it so
-pub data Did (v : View) (call : Call) : ℕ → View → Type 0 where
-  fellAtTick : eventOf call 0 ≡ aTick → Did v call 0 (fallen (countedOn v))
-  fellAtTickAndEnd : eventOf call 0 ≡ aTick → Did v call 0 (nextCycle (fallen (countedOn v)))
-  tickedOn : eventOf call 0 ≡ aTick → BelowLimits (countedOn v) → Did v call 0 (countedOn v)
-  tickedOnAndEnd : eventOf call 0 ≡ aTick → BelowLimits (countedOn v) → Did v call 0 (nextCycle (countedOn v))
-  kept : (n : ℕ) → eventOf call n ≡ nothing → Did v call n v
-  lost : (n : ℕ) → eventOf call n ≡ nothing → Did v call n (fallen v)
-  heardOnly : (src cyc : ℕ) → eventOf call 0 ≡ aSync src cyc → v .assigned ≡ true → Did v call 0 (hears src cyc v)
-  enteredRun : (src cyc : ℕ) → eventOf call 0 ≡ aSync src cyc → v .assigned ≡ true → v .mode ≡ inFallback → v .rep ≡ released → Did v call 0 (runs (hears src cyc v))
-  takenOnly : (r : Request) → eventOf call 16 ≡ aRefusedWrite r → Due v r → Did v call 16 (takes v)
-  asked : (r : Request) → eventOf call 0 ≡ aRequest r → Due v r → writesOutputs (r .ask) ≡ false → Did v call 0 (takes v)
-  configured : (r : Request) (t n m : ℕ) → eventOf call 0 ≡ aRequest r → Due v r → writesOutputs (r .ask) ≡ false → v .mode ≡ inFallback → Did v call 0 (limits t n m (takes v))
-  releasedBy : (r : Request) → eventOf call 0 ≡ aRequest r → Due v r → writesOutputs (r .ask) ≡ false → ordersRelease (r .ask) ≡ true → Did v call 0 (releases (takes v))
-  withdrawn : (r : Request) → eventOf call 0 ≡ aRequest r → Due v r → writesOutputs (r .ask) ≡ false → Did v call 0 (fallen (takes v))
-  output : (r : Request) (add : ℕ) (xs : List ℕ) → eventOf call 0 ≡ aRequest r → Due v r → writesOutputs (r .ask) ≡ true → v .mode ≡ inRun → LaidWrite call r add xs → Did v call 0 (outputs add xs (takes v))
-  namedFirst : (sid : ℕ) → eventOf call 0 ≡ anAssignment sid → v .assigned ≡ false → Did v call 0 (named sid v)
-  acknowledged : (sid : ℕ) → eventOf call 0 ≡ anAssignment sid → v .assigned ≡ true → Did v call 0 v
+-- the call brings no safe request
+abbrev pub BringsNone : Call → Type 0
+BringsNone call = (src seq : ℕ) → Brings call src seq → ⊥
+
+-- a call on a module of the view v, whether it is accepted, and what it means: it leaves the view so
+pub data Did (v : View) (call : Call) (ok : Bool) (means : Event) : View → Type 0 where
+  fellAtTick : means ≡ aTick → Did v call ok means (fallen (countedOn v))
+  fellAtTickAndEnd : means ≡ aTick → Did v call ok means (nextCycle (fallen (countedOn v)))
+  tickedOn : means ≡ aTick → BelowLimits (countedOn v) → Did v call ok means (countedOn v)
+  tickedOnAndEnd : means ≡ aTick → BelowLimits (countedOn v) → Did v call ok means (nextCycle (countedOn v))
+  kept : means ≡ nothing → Did v call ok means v
+  lost : means ≡ nothing → BringsNone call → Did v call ok means (fallen v)
+  heardOnly : (src cyc : ℕ) → means ≡ aSync src cyc → v .assigned ≡ true → Did v call ok means (hears src cyc v)
+  enteredRun : (src cyc : ℕ) → means ≡ aSync src cyc → v .assigned ≡ true → v .mode ≡ inFallback → v .registers .rep ≡ released → Did v call ok means (runs (hears src cyc v))
+  takenOnly : (r : Request) → means ≡ aRefusedWrite r → Due v r → Did v call ok means (takes v)
+  asked : (r : Request) → means ≡ aRequest r → Due v r → writesOutputs (r .ask) ≡ false → Did v call ok means (takes v)
+  configured : (r : Request) (t c m : ℕ) → means ≡ aRequest r → Due v r → writesOutputs (r .ask) ≡ false → v .mode ≡ inFallback → Did v call ok means (limits t c m (takes v))
+  releasedBy : (r : Request) → means ≡ aRequest r → Due v r → writesOutputs (r .ask) ≡ false → ordersRelease (r .ask) ≡ true → Did v call ok means (releases (takes v))
+  withdrawn : (r : Request) → means ≡ aRequest r → Due v r → writesOutputs (r .ask) ≡ false → Did v call ok means (fallen (takes v))
+  output : (r : Request) (add : ℕ) (xs : List ℕ) → ok ≡ true → means ≡ aRequest r → Due v r → writesOutputs (r .ask) ≡ true → v .mode ≡ inRun → LaidWrite call r add xs → Did v call ok means (outputs add xs (takes v))
+  namedFirst : (sid : ℕ) → means ≡ anAssignment sid → v .assigned ≡ false → Did v call ok means (named sid v)
+  acknowledged : (sid : ℕ) → means ≡ anAssignment sid → v .assigned ≡ true → Did v call ok means v
+
+-- a call, and what it means by its answer
+pub record Told : Type 0 where
+  pub call : Call
+  pub means : ℕ → Event
+
+-- on a SIL2 module
+abbrev pub told : Call → Told
+told call = record { call = call; means = eventOf call }
 
 -- a step of the rules: one of these, shown by the agent it leaves
-pub record Step (a : Agent) (call : Call) (o : Outcome) : Type 0 where
+pub record Step (a : Agent) (call : Told) (o : Outcome) : Type 0 where
   pub view : View
-  pub did : Did (viewOf a) call (o .answer) view
+  pub did : Did (viewOf a) (call .call) (isAccepted (o .answer)) (call .means (o .answer)) view
   pub shows : Agree (viewOf (o .agent)) view

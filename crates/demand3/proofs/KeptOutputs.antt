@@ -9,15 +9,17 @@ use lib.ListN.{length, getD}
 use borrow.Author.Tests.{le-leb, lt-leb, lt-ltb, le-ltb}
 use Rattle.base.specs.Choice.{choose}
 use Rattle.base.proofs.Choosing.{choose-false}
+use Rattle.demand3.specs.Numbers.{isAccepted}
 use Rattle.rules.specs.Calls.{Call}
 use Rattle.rules.specs.Registers.{outputsAt}
 use Rattle.rules.specs.State.{inRun}
 use Rattle.demand3.specs.Claim.{Written, written}
-use Rattle.demand3.specs.Events.{aTick, aRequest, eventOf, writesOutputs, Request}
+use Rattle.demand3.specs.Events.{Event, aTick, aRequest, writesOutputs, Request}
 use Rattle.demand3.specs.History.{History}
-use Rattle.demand3.proofs.Effects.{View, Facts, Due, LaidWrite, takes, outputs}
+use Rattle.demand3.proofs.Effects.{Due, LaidWrite, takes, outputs}
 use Rattle.demand3.proofs.Link.{Linked, Kept, entryOf, not-both, no-tick}
 use Rattle.demand3.proofs.KeptRequests.{is-fresh, all-differ, numbered, takes-accepted}
+use Rattle.demand3.proofs.Views.{View, Facts}
 
 -- register j after the bytes xs are written from add on
 abbrev over : ℕ → List ℕ → ℕ → ℕ → ℕ
@@ -32,12 +34,12 @@ over-before add xs j x p = choose-false _ _ (lt-leb add j p)
 over-behind : (add : ℕ) (xs : List ℕ) (j x : ℕ) → add + length xs ≤ j → over add xs j x ≡ x
 over-behind add xs j x p = rw (le-leb add j (omega arith), le-ltb j (add + length xs) p)
 
-module _ (h : History) (v : View) (f : Facts v) (l : Linked h v) (r : Request) (due : Due v r) (call : Call) (add : ℕ) (xs : List ℕ) (ev : eventOf call 0 ≡ aRequest r) (run : v .mode ≡ inRun) where
-  not-tick : eventOf call 0 ≡ aTick → ⊥
+module _ (h : History) (v : View) (f : Facts v) (l : Linked h v) (r : Request) (due : Due v r) (call : Call) (n : ℕ) (means : Event) (add : ℕ) (xs : List ℕ) (ev : means ≡ aRequest r) (run : v .mode ≡ inRun) where
+  not-tick : means ≡ aTick → ⊥
   not-tick = no-tick (aRequest r) tt ev
 
-  is-written : LaidWrite call r add xs → Written h (entryOf v call 0 (outputs add xs (takes v)))
-  is-written laid =
+  is-written : isAccepted n ≡ true → LaidWrite call r add xs → Written h (entryOf v call n means (outputs add xs (takes v)))
+  is-written zero laid =
       let fresh = is-fresh h v f l r due in
       record {
         port = laid .port;
@@ -52,35 +54,30 @@ module _ (h : History) (v : View) (f : Facts v) (l : Linked h v) (r : Request) (
         add = add;
         xs = xs;
         called = laid .called;
-        answered = refl;
+        answered = zero;
         run = run;
         laid = laid .laid;
         length-is = laid .length-is;
         own = fresh .own;
         of-sync = fresh .of-sync;
         due = fresh .due;
-        covered = λ i b p q. over-in add xs (outputsAt + i) (v .out i) p q;
-        before = λ i b p. over-before add xs (outputsAt + i) (v .out i) p;
-        behind = λ i b p. over-behind add xs (outputsAt + i) (v .out i) p;
+        covered = λ i b p q. over-in add xs (outputsAt + i) (v .registers .out i) p q;
+        before = λ i b p. over-before add xs (outputsAt + i) (v .registers .out i) p;
+        behind = λ i b p. over-behind add xs (outputsAt + i) (v .registers .out i) p;
       }
 
-  pub kept-output : writesOutputs (r .ask) ≡ true → LaidWrite call r add xs → Kept h v call 0 (outputs add xs (takes v))
-  kept-output w laid =
+  pub kept-output : isAccepted n ≡ true → writesOutputs (r .ask) ≡ true → LaidWrite call r add xs → Kept h v call n means (outputs add xs (takes v))
+  kept-output zero w laid =
       record {
         fine = record {
-          outputs = written (is-written laid);
+          outputs = written (is-written zero laid);
           leaving-run = λ x. absurd (not-both (v .mode) run (x .to));
           numbers = rw ev (all-differ h v f l r due);
-          sync-silence = λ x. absurd (not-tick (x .tick));
           command-silence = λ x. absurd (not-tick (x .tick));
-          entry-to-run = λ x. absurd (not-both (v .mode) run (x .from));
-          two-modes = λ x. absurd (x run);
         };
         fresh = takes-accepted ev (is-fresh h v f l r due);
         link = rw ev record {
-          silence = l .silence;
           idle = λ p. rw (p, w) refl;
-          released = λ p. absurd (not-both (v .mode) run p);
           numbering = numbered h v f l r due;
           naming = l .naming;
         };

@@ -1,4 +1,5 @@
 pub mod StoredPlaces
+pub mod Views
 pub mod Effects
 pub mod LowNumbers
 pub mod RegisterViews
@@ -12,7 +13,6 @@ pub mod Spans
 pub mod SameNumbers
 pub mod WriteDid
 pub mod RequestDid
-pub mod AssignmentDid
 pub mod CallDid
 pub mod Numbering
 pub mod Link
@@ -23,13 +23,15 @@ pub mod KeptOutputs
 pub mod KeptOthers
 pub mod KeptAll
 pub mod Shown
-pub mod Start
-pub mod Throughout
-pub mod Theorem
-pub mod Refusals
+pub mod Ignored
+pub mod AskedEvents
+pub mod Device
+pub mod BoundedModules
+pub mod SafeIsBounded
+pub mod SafeModules
 pub mod Deposed
+pub mod Proved
 pub mod Refuses
 pub mod RefusesWrites
 pub mod RefusesData
-pub mod Proved
 pub mod ReachedLaws

@@ -4,61 +4,54 @@ use mathlib.Core.Bool.{Bool, true, false}
 use mathlib.Core.List.{List}
 use mathlib.Core.Option.{Option, none, some}
 use mathlib.Core.Path.{_≡_, refl, sym, _∙_, subst}
-use Prim.Native.Nat.{ℕ, _<_, min}
+use Prim.Native.Nat.{ℕ, _<_}
 use native.Mathlib.Omega.{arith}
 use lib.Dec.{eqb}
 use borrow.Author.Tests.{eqb-true, eqb-false}
 use Rattle.rules.specs.Calls.{Call}
-use Rattle.rules.specs.Fallback as fallback
 use Rattle.rules.specs.Registers.{image}
 use Rattle.rules.specs.State.{inRun, inFallback}
-use Rattle.rules.specs.Tick.{silenceEnd}
-use Rattle.demand3.specs.Claim.{Safe, OutputsRight, same, fell, Enters}
+use Rattle.demand3.specs.Claim.{Safe, OutputsRight, same, fell}
 use Rattle.demand3.specs.Events.{Event, aTick, aSync, aRequest, aRefusedWrite, anAssignment, nothing, Request}
 use Rattle.demand3.specs.History.{History, _▸_, Entry, Seen}
 use Rattle.demand3.specs.Sharper.{Takes, accepts, refuses, Fresh}
-use Rattle.demand3.specs.Words.{SyncOf, event, lastSync, ownSid, taken, silence, idle, AllDiffer, LeavesRun, EntersRun, TickAtSyncLimit, TickAtCommandLimit, Released, still}
-use Rattle.demand3.proofs.Effects.{View, Facts}
+use Rattle.demand3.specs.Words.{SyncOf, event, lastSync, ownSid, taken, idle, AllDiffer, LeavesRun, TickAtCommandLimit}
 use Rattle.demand3.proofs.Numbering.{Numbering}
+use Rattle.demand3.proofs.Views.{View, Facts}
 
 -- what may be seen of a view, and a call as the history has it
 abbrev pub seenOf : View → Seen
-seenOf v = record { mode = v .mode; out = v .out; t = v .t; n = v .n; m = v .m }
+seenOf v = record { mode = v .mode; out = v .registers .out; t = v .registers .t; n = v .registers .n; m = v .registers .m }
 
-abbrev pub entryOf : View → Call → ℕ → View → Entry
-entryOf v call n w = record { call = call; answer = n; before = seenOf v; after = seenOf w }
+abbrev pub entryOf : View → Call → ℕ → Event → View → Entry
+entryOf v call n ev w = record { call = call; answer = n; event = ev; before = seenOf v; after = seenOf w }
 
 -- the own SID, once there is one
 pub record Naming (assigned : Bool) (sid : ℕ) (I : Option ℕ) : Type 0 where
   pub known : assigned ≡ true → I ≡ some sid
   pub unknown : assigned ≡ false → I ≡ none
 
--- a view against what the history says of: the last sync, the own SID, the numbers taken, the two silences, the release
-pub record Link (Y : Option SyncOf) (I : Option ℕ) (tk : List ℕ) (sil idl : ℕ) (Rel : Type 0) (v : View) : Type 0 where
-  pub silence : v .s ≡ min sil silenceEnd
-  pub idle : v .mode ≡ inRun → v .q ≡ idl
-  pub released : v .mode ≡ inFallback → v .rep ≡ fallback.released → Rel
-  pub numbering : Numbering (v .heard) (v .c) (v .k) (v .last) Y tk
-  pub naming : Naming (v .assigned) (v .sid) I
+-- a view against what the history says of: the last sync, the own SID, the numbers taken, the silence of commands
+pub record Link (Y : Option SyncOf) (I : Option ℕ) (tk : List ℕ) (idl : ℕ) (v : View) : Type 0 where
+  pub idle : v .mode ≡ inRun → v .clocks .q ≡ idl
+  pub numbering : Numbering (v .cycle .heard) (v .cycle .c) (v .cycle .k) (v .cycle .last) Y tk
+  pub naming : Naming (v .assigned) (v .registers .sid) I
 
 abbrev pub Linked : History → View → Type 0
-Linked h v = Link (lastSync h) (ownSid h) (taken h) (silence h) (idle h) (Released h) v
+Linked h v = Link (lastSync h) (ownSid h) (taken h) (idle h) v
 
--- what the claim says of one call, but for the answer 19
+-- what the claim says of one call, but for what is bounded
 pub record Fine (h : History) (e : Entry) : Type 0 where
   pub outputs : OutputsRight h e
   pub leaving-run : LeavesRun e → Safe (e .after)
   pub numbers : AllDiffer (taken (h ▸ e))
-  pub sync-silence : TickAtSyncLimit h e → Safe (e .after)
   pub command-silence : TickAtCommandLimit h e → Safe (e .after)
-  pub entry-to-run : EntersRun e → Enters h e
-  pub two-modes : (e .after .mode ≡ inRun → ⊥) → e .after .mode ≡ inFallback
 
 -- a call is fine, a request that it takes is fresh, and the link is kept
-pub record Kept (h : History) (v : View) (call : Call) (n : ℕ) (w : View) : Type 0 where
-  pub fine : Fine h (entryOf v call n w)
-  pub fresh : (r : Request) → Takes (entryOf v call n w) r → Fresh h r
-  pub link : Linked (h ▸ entryOf v call n w) w
+pub record Kept (h : History) (v : View) (call : Call) (n : ℕ) (means : Event) (w : View) : Type 0 where
+  pub fine : Fine h (entryOf v call n means w)
+  pub fresh : (r : Request) → Takes (entryOf v call n means w) r → Fresh h r
+  pub link : Linked (h ▸ entryOf v call n means w) w
 
 -- ---- modes and events
 
@@ -98,9 +91,9 @@ takes-none w n p r (refuses q) = absurd (subst NoRequest (sym p ∙ q) n)
 
 -- ---- two kinds of call that are fine
 
-module _ (h : History) (v : View) (f : Facts v) (call : Call) (n : ℕ) (w : View) where
+module _ (h : History) (v : View) (f : Facts v) (call : Call) (n : ℕ) (ev : Event) (w : View) where
   -- the module ends in fallback, outputs zero
-  pub fine-safe : Safe (seenOf w) → AllDiffer (taken (h ▸ entryOf v call n w)) → Fine h (entryOf v call n w)
+  pub fine-safe : Safe (seenOf w) → AllDiffer (taken (h ▸ entryOf v call n ev w)) → Fine h (entryOf v call n ev w)
   fine-safe safe differ =
       record {
         outputs = by-mode v f
@@ -108,26 +101,16 @@ module _ (h : History) (v : View) (f : Facts v) (call : Call) (n : ℕ) (w : Vie
             (λ p. same (λ i b. safe .zero i b ∙ sym (f .cold p i b)));
         leaving-run = λ x. safe;
         numbers = differ;
-        sync-silence = λ x. safe;
         command-silence = λ x. safe;
-        entry-to-run = λ x. absurd (not-both (w .mode) (x .to) (safe .mode));
-        two-modes = λ x. safe .mode;
       }
 
   -- no tick; mode and outputs stay
-  pub fine-unchanged : w .mode ≡ v .mode → ((i : ℕ) → i < image → w .out i ≡ v .out i) → (event (entryOf v call n w) ≡ aTick → ⊥)
-      → AllDiffer (taken (h ▸ entryOf v call n w)) → Fine h (entryOf v call n w)
+  pub fine-unchanged : w .mode ≡ v .mode → ((i : ℕ) → i < image → w .registers .out i ≡ v .registers .out i) → (ev ≡ aTick → ⊥)
+      → AllDiffer (taken (h ▸ entryOf v call n ev w)) → Fine h (entryOf v call n ev w)
   fine-unchanged mode outs not-tick differ =
       record {
         outputs = same outs;
         leaving-run = λ x. absurd (not-both (v .mode) (x .from) (sym mode ∙ x .to));
         numbers = differ;
-        sync-silence = λ x. absurd (not-tick (x .tick));
         command-silence = λ x. absurd (not-tick (x .tick));
-        entry-to-run = λ x. absurd (not-both (v .mode) (sym mode ∙ x .to) (x .from));
-        two-modes = λ x. mode ∙ f .modes (λ p. x (mode ∙ p));
       }
-
-  -- a pending release is pending still, after a call in fallback that is no tick
-  pub release-stays : Linked h v → (event (entryOf v call n w) ≡ aTick → ⊥) → v .mode ≡ inFallback → v .rep ≡ fallback.released → Released (h ▸ entryOf v call n w)
-  release-stays l not-tick p q = still (l .released p q) (λ x. not-both (v .mode) (x .from) p) (λ x. not-tick (x .tick))

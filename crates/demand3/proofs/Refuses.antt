@@ -17,7 +17,7 @@ abbrev pub shows : ℕ → ℕ → Seen
 shows mode x = record { mode = mode; out = λ i. x; t = 1; n = 1; m = 1 }
 
 abbrev pub called : Call → ℕ → Seen → Seen → Entry
-called call n x y = record { call = call; answer = n; before = x; after = y }
+called call n x y = record { call = call; answer = n; event = eventOf call n; before = x; after = y }
 
 abbrev pub ticked : Seen → Seen → Entry
 ticked x y = called tick 0 x y
@@ -69,11 +69,11 @@ taken-twice c d r q e f s h =
 
 -- RUN goes on at the sync limit
 pub run-past-sync-limit : Holds (powerOn ▸ ticked (shows inRun 0) (shows inRun 0)) → ⊥
-run-past-sync-limit h = omega (arith, h .sync-silence _ _ now record { tick = is-tick; limit = rw is-tick (omega arith) } .mode)
+run-past-sync-limit h = omega (arith, h .bounded .sync-silence _ _ now record { tick = is-tick; limit = rw is-tick (omega arith) } .mode)
 
 -- at the sync limit, in fallback, outputs are not zero
 pub fallback-not-zero : Holds (powerOn ▸ ticked (shows inFallback 7) (shows inFallback 7)) → ⊥
-fallback-not-zero h = omega (arith, h .sync-silence _ _ now record { tick = is-tick; limit = rw is-tick (omega arith) } .zero 0 (omega arith))
+fallback-not-zero h = omega (arith, h .bounded .sync-silence _ _ now record { tick = is-tick; limit = rw is-tick (omega arith) } .zero 0 (omega arith))
 
 -- with the sync limit far off
 abbrev slow : ℕ → ℕ → Seen
@@ -87,20 +87,20 @@ run-past-command-limit h = omega (arith, h .command-silence _ _ now record { tic
 
 -- by a tick
 pub run-by-tick : Holds (powerOn ▸ ticked (shows inFallback 0) (shows inRun 0)) → ⊥
-run-by-tick h = let e = h .entry-to-run _ _ now record { from = refl; to = refl } in tick-no-sync (e .src) (e .cyc) (e .by-sync)
+run-by-tick h = let e = h .bounded .entry-to-run _ _ now record { from = refl; to = refl } in tick-no-sync (e .src) (e .cyc) (e .by-sync)
 
 -- with no release at all
 no-release : Released powerOn → ⊥
 no-release r = elim r [ ]
 
 pub run-without-release : (call : Call) → Holds (powerOn ▸ called call 0 (shows inFallback 0) (shows inRun 0)) → ⊥
-run-without-release call h = no-release (h .entry-to-run _ _ now record { from = refl; to = refl } .released)
+run-without-release call h = no-release (h .bounded .entry-to-run _ _ now record { from = refl; to = refl } .released)
 
 -- with a tick at the sync limit behind the release
 pub release-before-limit : (order sync : Call)
     → Holds (powerOn ▸ called order 0 (shows inFallback 0) (shows inFallback 0) ▸ ticked (shows inFallback 0) (shows inFallback 0)
     ▸ called sync 0 (shows inFallback 0) (shows inRun 0)) → ⊥
-release-before-limit order sync h = by (h .entry-to-run _ _ now record { from = refl; to = refl } .released)
+release-before-limit order sync h = by (h .bounded .entry-to-run _ _ now record { from = refl; to = refl } .released)
   where
     by : Released (powerOn ▸ called order 0 (shows inFallback 0) (shows inFallback 0) ▸ ticked (shows inFallback 0) (shows inFallback 0)) → ⊥
     by (ordered r e o) = tick-no-request r e
@@ -110,7 +110,7 @@ release-before-limit order sync h = by (h .entry-to-run _ _ now record { from = 
 pub release-before-leaving : (order sync : Call)
     → Holds (powerOn ▸ called order 0 (slow inRun 0) (slow inRun 0) ▸ ticked (slow inRun 0) (slow inFallback 0)
     ▸ called sync 0 (slow inFallback 0) (slow inRun 0)) → ⊥
-release-before-leaving order sync h = by (h .entry-to-run _ _ now record { from = refl; to = refl } .released)
+release-before-leaving order sync h = by (h .bounded .entry-to-run _ _ now record { from = refl; to = refl } .released)
   where
     by : Released (powerOn ▸ called order 0 (slow inRun 0) (slow inRun 0) ▸ ticked (slow inRun 0) (slow inFallback 0)) → ⊥
     by (ordered r e o) = tick-no-request r e
@@ -120,8 +120,8 @@ release-before-leaving order sync h = by (h .entry-to-run _ _ now record { from 
 
 -- a third mode
 pub third-mode : Holds (powerOn ▸ ticked (shows inRun 0) (shows 2 0)) → ⊥
-third-mode h = omega (arith, h .two-modes _ _ now (λ p. omega arith))
+third-mode h = omega (arith, h .bounded .two-modes _ _ now (λ p. omega arith))
 
 -- an answer of 19
 pub answered-19 : (call : Call) → Holds (powerOn ▸ called call unsound (shows inFallback 0) (shows inFallback 0)) → ⊥
-answered-19 call h = h .no-19 _ _ now refl
+answered-19 call h = h .bounded .no-19 _ _ now refl

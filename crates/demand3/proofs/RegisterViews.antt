@@ -4,26 +4,18 @@ use mathlib.Core.Path.{_≡_}
 use mathlib.Core.List.{List}
 use Prim.Native.Nat.{ℕ, _+_, _≤_, _<_}
 use native.Mathlib.Omega.{arith}
-use lib.ListN.{length, getD}
+use lib.ListN.{length}
 use lib.Seq.{sets}
 use Rattle.demand3.proofs.StoredPlaces.{stored-outside}
-use Rattle.rules.specs.Registers.{sidAt, outRep, tcyc, cnfRep, cnfCyc, outputsAt, image, lowNumber}
+use Rattle.rules.specs.Registers.{sidAt, outRep, tcyc, cnfRep, cnfCyc, outputsAt}
 use Rattle.demand3.proofs.LowNumbers.{low-number-same}
-
--- the registers of the view are the same in both
-pub record Same (r s : List ℕ) : Type 0 where
-  pub rep : getD s outRep 0 ≡ getD r outRep 0
-  pub t : getD s tcyc 0 ≡ getD r tcyc 0
-  pub n : getD s cnfCyc 0 ≡ getD r cnfCyc 0
-  pub m : getD s cnfRep 0 ≡ getD r cnfRep 0
-  pub out : (i : ℕ) → i < image → getD s (outputsAt + i) 0 ≡ getD r (outputsAt + i) 0
-  pub sid : lowNumber s sidAt 3 ≡ lowNumber r sidAt 3
+use Rattle.demand3.proofs.Views.{registersOf, SameRegisters}
 
 -- ---- a run apart from the view: no register that it touches is shown
 abbrev pub Apart : ℕ → ℕ → Type 0
 Apart i n = (j : ℕ) → 0x14 ≤ j → j < 0xC0 → (j ≡ 0x19 → ⊥) → (0x1C ≤ j → 0x80 ≤ j) → i ≤ j → j < i + n → ⊥
 
-pub apart-same : (r : List ℕ) (i : ℕ) (xs : List ℕ) → Apart i (length xs) → Same r (sets r i xs)
+pub apart-same : (r : List ℕ) (i : ℕ) (xs : List ℕ) → Apart i (length xs) → SameRegisters (registersOf (sets r i xs)) (registersOf r)
 apart-same r i xs h = record {
   rep = stored-outside r i xs outRep (h outRep (omega arith) (omega arith) (λ e. omega arith) (λ l. omega arith));
   t = stored-outside r i xs tcyc (h tcyc (omega arith) (omega arith) (λ e. omega arith) (λ l. omega arith));

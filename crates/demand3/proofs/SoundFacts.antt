@@ -19,7 +19,7 @@ use Rattle.rules.specs.Sound.{settingsSound, sourcesSound, countersSound, outpu
 use Rattle.rules.specs.Sources.{holds, isRecorded}
 use Rattle.rules.specs.State.{inRun, inFallback, unheard, nobody, reg}
 use Rattle.rules.specs.declared.Agent.{Agent}
-use Rattle.demand3.proofs.Effects.{viewOf, Facts}
+use Rattle.demand3.proofs.Views.{viewOf, Facts}
 
 -- ---- a recorded source is one of at least one
 holds-some : (l : List ℕ) (n x : ℕ) → holds l n x ≡ true → eqb n 0 ≡ false

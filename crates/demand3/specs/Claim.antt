@@ -1,19 +1,19 @@
 -- Demand 3, one claim about the whole list. Assumes nothing.
+use mathlib.Core.Bool.{true}
 use mathlib.Core.List.{List, [], _∷_}
 use mathlib.Core.Option.{some}
 use mathlib.Core.Path.{_≡_}
 use Prim.Native.Nat.{ℕ, _+_, _-_, _≤_, _<_}
 use lib.ListN.{length, getD}
-use Rattle.base.specs.Bytes.{Bytes}
 use Rattle.wire.specs.Laying.{bodyOf}
 use Rattle.frames.specs.Kinds.{appOf}
 use Rattle.frames.specs.declared.kinds.Frame.the-variants.{SafeWrite}
-use Rattle.rules.specs.Calls.{Call, tick, input, frame}
+use Rattle.rules.specs.Calls.{Call, frame}
 use Rattle.rules.specs.Good.{BytesCall}
 use Rattle.rules.specs.PowerUp.{powerUp}
 use Rattle.demand3.specs.Events.{aSync}
 use Rattle.demand3.specs.History.{History, powerOn, _▸_, Entry, Seen, history}
-use Rattle.demand3.specs.Numbers.{inRun, inFallback, outputsAt, image, accepted, unsound}
+use Rattle.demand3.specs.Numbers.{inRun, inFallback, outputsAt, image, isAccepted, unsound}
 use Rattle.demand3.specs.Words.{event, lastSync, ownSid, taken, numberDue, AllDiffer, LeavesRun, EntersRun, TickAtSyncLimit, TickAtCommandLimit, Released}
 
 -- in fallback, outputs zero
@@ -37,7 +37,7 @@ pub record Written (h : History) (e : Entry) : Type 0 where
   pub add : ℕ
   pub xs : List ℕ
   pub called : e .call ≡ frame port body room
-  pub answered : e .answer ≡ accepted
+  pub answered : isAccepted (e .answer) ≡ true
   pub run : e .before .mode ≡ inRun
   pub laid : body ≡ bodyOf address (appOf (SafeWrite dest src cyc seq datl add) xs)
   pub length-is : length xs ≡ datl
@@ -70,21 +70,27 @@ pub data Came (past : History) (e : Entry) : History → Type 0 where
 abbrev pub Everywhere : (History → Entry → Type 0) → History → Type 0
 Everywhere P h = (past : History) (e : Entry) → Came past e h → P past e
 
+-- of every module: the sync limit, and the way back to RUN
+pub record Bounded (h : History) : Type 0 where
+  -- silence ends in fallback, outputs zero
+  pub sync-silence : Everywhere (λ past e. TickAtSyncLimit past e → Safe (e .after)) h
+  -- from fallback to RUN only so
+  pub entry-to-run : Everywhere (λ past e. EntersRun e → Enters past e) h
+  -- the mode is one of the two, and no call is answered 19
+  pub two-modes : Everywhere (λ past e. ((e .after .mode ≡ inRun → ⊥) → e .after .mode ≡ inFallback)) h
+  pub no-19 : Everywhere (λ past e. e .answer ≡ unsound → ⊥) h
+
+-- of a safe module: these too
 pub record Holds (h : History) : Type 0 where
+  pub bounded : Bounded h
   -- the outputs change only so
   pub outputs : Everywhere OutputsRight h
   -- a call that takes the module from RUN into fallback leaves them all zero
   pub leaving-run : Everywhere (λ past e. LeavesRun e → Safe (e .after)) h
   -- requests taken between two accepted syncs that follow each other, or after the last, all differ in SEQ
   pub numbers : Everywhere (λ past e. AllDiffer (taken (past ▸ e))) h
-  -- silence ends in fallback, outputs zero
-  pub sync-silence : Everywhere (λ past e. TickAtSyncLimit past e → Safe (e .after)) h
+  -- silence of commands in RUN ends in fallback too, outputs zero
   pub command-silence : Everywhere (λ past e. TickAtCommandLimit past e → Safe (e .after)) h
-  -- from fallback to RUN only so
-  pub entry-to-run : Everywhere (λ past e. EntersRun e → Enters past e) h
-  -- the mode is one of the two, and no call is answered 19
-  pub two-modes : Everywhere (λ past e. ((e .after .mode ≡ inRun → ⊥) → e .after .mode ≡ inFallback)) h
-  pub no-19 : Everywhere (λ past e. e .answer ≡ unsound → ⊥) h
 
 -- bodies and inputs are bytes, as they are for every call of the code
 abbrev pub BytesCalls : List Call → Type 0

@@ -15,7 +15,7 @@ use Rattle.frames.specs.declared.reading.Reading.the-variants as reading
 use Rattle.frames.specs.declared.reading.Received.{Received}
 use Rattle.rules.specs.Calls.{Call, tick, input, frame}
 use Rattle.rules.specs.Requests.{Ask, reads, writes}
-use Rattle.demand3.specs.Numbers.{accepted, outsideRules, writesRelease, writesWithinOutputs}
+use Rattle.demand3.specs.Numbers.{isAccepted, outsideRules, writesRelease, writesWithinOutputs}
 
 -- a safe request: DEST, SRC, CYC, SEQ and what it asks for
 pub record Request : Type 0 where
@@ -39,16 +39,16 @@ pub data Event : Type 0 where
   nothing : Event
 
 abbrev pub ofRequest : Request → ℕ → Event
-ofRequest r n = choose (eqb n accepted) (aRequest r) (choose (eqb n outsideRules) (aRefusedWrite r) nothing)
+ofRequest r n = choose (isAccepted n) (aRequest r) (choose (eqb n outsideRules) (aRefusedWrite r) nothing)
 
 -- a frame with its data, and the answer
 abbrev pub ofFrame : Frame → List ℕ → ℕ → Event
-ofFrame (Sync src cyc) xs n = choose (eqb n accepted) (aSync src cyc) nothing
+ofFrame (Sync src cyc) xs n = choose (isAccepted n) (aSync src cyc) nothing
 ofFrame (SafeRead dest src cyc seq datl add) xs n =
     ofRequest (record { dest = dest; src = src; cyc = cyc; seq = seq; ask = reads datl add }) n
 ofFrame (SafeWrite dest src cyc seq datl add) xs n =
     ofRequest (record { dest = dest; src = src; cyc = cyc; seq = seq; ask = writes add xs }) n
-ofFrame (SidAssignment src sec mac sid) xs n = choose (eqb n accepted) (anAssignment sid) nothing
+ofFrame (SidAssignment src sec mac sid) xs n = choose (isAccepted n) (anAssignment sid) nothing
 ofFrame (PlainRead src datl add) xs n = nothing
 ofFrame (PlainWrite src datl add) xs n = nothing
 ofFrame (SafeResponse dest src cyc seq kind datl add stat) xs n = nothing

@@ -6,6 +6,7 @@ use lib.ListN.{getD}
 use Rattle.rules.specs.Calls.{Call, act}
 use Rattle.rules.specs.Replies.{Outcome}
 use Rattle.rules.specs.declared.Agent.{Agent}
+use Rattle.demand3.specs.Events.{Event, eventOf}
 use Rattle.demand3.specs.Numbers.{tcyc, cnfRep, cnfCyc, outputsAt}
 
 infixl 20 _▸_
@@ -20,6 +21,8 @@ pub record Seen : Type 0 where
 pub record Entry : Type 0 where
   pub call : Call
   pub answer : ℕ
+  -- what the two amount to
+  pub event : Event
   pub before : Seen
   pub after : Seen
 
@@ -41,9 +44,13 @@ seenOf mode regs = record {
 abbrev pub seen : Agent → Seen
 seen a = seenOf (a .mode) (a .regs)
 
+-- a call and its answer, with what was seen before and after. What a module takes them for is said here
+abbrev pub callEntry : Call → ℕ → Seen → Seen → Entry
+callEntry call answer before after = record { call = call; answer = answer; event = eventOf call answer; before = before; after = after }
+
 -- a call on the agent a, its answer, and the agent b that it left
 abbrev pub entryOf : Agent → Call → ℕ → Agent → Entry
-entryOf a call answer b = record { call = call; answer = answer; before = seen a; after = seen b }
+entryOf a call answer b = callEntry call answer (seen a) (seen b)
 
 abbrev pub entry : Agent → Call → Outcome → Entry
 entry a call o = entryOf a call (o .answer) (o .agent)

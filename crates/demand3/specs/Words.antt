@@ -1,17 +1,17 @@
 -- Document 01's words for demand 3, each a rule for what one more event makes of it. Assumes nothing.
-use mathlib.Core.Bool.{Bool, true, false}
+use mathlib.Core.Bool.{true}
 use mathlib.Core.List.{List, [], _∷_}
 use mathlib.Core.Option.{Option, none, some}
 use mathlib.Core.Path.{_≡_}
 use Prim.Native.Nat.{ℕ, _+_, _*_, _%_, _≤_}
 use lib.Dec.{eqb}
 use Rattle.base.specs.Choice.{choose}
-use Rattle.demand3.specs.Events.{Event, aTick, aSync, aRequest, aRefusedWrite, anAssignment, nothing, eventOf, ordersRelease, writesOutputs, Request}
-use Rattle.demand3.specs.History.{History, powerOn, _▸_, Entry, Seen}
+use Rattle.demand3.specs.Events.{Event, aTick, aSync, aRequest, aRefusedWrite, anAssignment, nothing, ordersRelease, writesOutputs, Request}
+use Rattle.demand3.specs.History.{History, powerOn, _▸_, Entry}
 use Rattle.demand3.specs.Numbers.{inRun, inFallback, firstSeq}
 
 abbrev pub event : Entry → Event
-event e = eventOf (e .call) (e .answer)
+event e = e .event
 
 -- a sync: SRC and CYC
 abbrev pub SyncOf : Type 0

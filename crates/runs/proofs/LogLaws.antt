@@ -8,7 +8,7 @@ use lib.ListN.{length, getD, take, drop, length-append}
 use lib.Seq.{length-take-le, take-at, drop-at, getD-drop, sets, sets-eq}
 use Rattle.rules.specs.Calls.{Call}
 use Rattle.rules.specs.declared.Agent.{Agent}
-use Rattle.demand3.specs.History.{History, _▸_, Seen, seenOf, seen, entryOf}
+use Rattle.demand3.specs.History.{History, _▸_, Seen, seenOf, seen, callEntry, entryOf}
 use Rattle.runs.specs.Log.{recordOf, recordSize, seenIn, logged}
 
 -- a call that the code has made: what it answered, and the agent that it left
@@ -86,10 +86,10 @@ logged-is (d ∷ ds) a h n rest full =
     let answer : getD l recordSize 0 ≡ m = at-drop l recordSize ∙ ap (λ (k : List ℕ). getD k 0 0) next in
     let before : seenIn l ≡ seen a = seen-back n a full ((recordOf m b ++ recordsOf ds) ++ rest) in
     let behind : seenIn (drop recordSize l) ≡ seen b = ap seenIn next ∙ seen-back m b (d .full) tail in
-    ap (λ (k : List ℕ). logged (h ▸ record { call = x; answer = getD l recordSize 0; before = seenIn l; after = seenIn (drop recordSize l) }) xs k) next
-    ∙ ap (λ (i : ℕ). logged (h ▸ record { call = x; answer = i; before = seenIn l; after = seenIn (drop recordSize l) }) xs (recordOf m b ++ tail)) answer
-    ∙ ap (λ (k : Seen). logged (h ▸ record { call = x; answer = m; before = k; after = seenIn (drop recordSize l) }) xs (recordOf m b ++ tail)) before
-    ∙ ap (λ (k : Seen). logged (h ▸ record { call = x; answer = m; before = seen a; after = k }) xs (recordOf m b ++ tail)) behind
+    ap (λ (k : List ℕ). logged (h ▸ callEntry x (getD l recordSize 0) (seenIn l) (seenIn (drop recordSize l))) xs k) next
+    ∙ ap (λ (i : ℕ). logged (h ▸ callEntry x i (seenIn l) (seenIn (drop recordSize l))) xs (recordOf m b ++ tail)) answer
+    ∙ ap (λ (k : Seen). logged (h ▸ callEntry x m k (seenIn (drop recordSize l))) xs (recordOf m b ++ tail)) before
+    ∙ ap (λ (k : Seen). logged (h ▸ callEntry x m (seen a) k) xs (recordOf m b ++ tail)) behind
     ∙ logged-is ds b (h ▸ entryOf a x m b) m rest (d .full)
 
 -- ---- written

@@ -7,7 +7,7 @@ use lib.ListN.{length, getD, take, drop}
 use Rattle.rules.specs.Calls.{Call}
 use Rattle.rules.specs.declared.Agent.{Agent}
 use Rattle.demand3.specs.Claim.{Holds}
-use Rattle.demand3.specs.History.{History, powerOn, _▸_, Seen, seenOf}
+use Rattle.demand3.specs.History.{History, powerOn, _▸_, Seen, seenOf, callEntry}
 use Rattle.demand3.specs.Reached.{Reached}
 use Rattle.demand3.specs.Sharper.{Sharper}
 use Rattle.runs.specs.CallBytes.{listBytes, AllMakable}
@@ -27,7 +27,7 @@ seenIn l = seenOf (getD l 1 0) (take 256 (drop 2 l))
 abbrev pub logged : History → List Call → List ℕ → History
 logged h [] l = h
 logged h (x ∷ xs) l =
-    logged (h ▸ record { call = x; answer = getD l recordSize 0; before = seenIn l; after = seenIn (drop recordSize l) }) xs (drop recordSize l)
+    logged (h ▸ callEntry x (getD l recordSize 0) (seenIn l) (seenIn (drop recordSize l))) xs (drop recordSize l)
 
 -- a run of the code over the whole list from power-up: demand 3 and the sharper statements hold of the history that it wrote
 -- down, and the agent that it returned is the one at its end

@@ -1,0 +1,49 @@
+-- A call that brings a safe request and is not accepted as that request changes neither an output nor the mode: of every
+-- effect. Assumes nothing.
+use mathlib.Core.Bool.{Bool}
+use mathlib.Core.Path.{_≡_, subst}
+use Prim.Native.Nat.{ℕ}
+use Rattle.rules.specs.Calls.{Call}
+use Rattle.demand3.specs.Events.{Event, aTick, aSync, aRequest, aRefusedWrite, anAssignment, nothing, Request}
+use Rattle.demand3.specs.History.{Entry}
+use Rattle.demand3.specs.Sharper.{Brings, Unchanged}
+use Rattle.demand3.specs.Words.{event}
+use Rattle.demand3.proofs.Effects.{Did, fellAtTick, fellAtTickAndEnd, tickedOn, tickedOnAndEnd, kept, lost, heardOnly, enteredRun, takenOnly, asked, configured, releasedBy, withdrawn, output, namedFirst, acknowledged}
+use Rattle.demand3.proofs.Link.{entryOf}
+use Rattle.demand3.proofs.Views.{View, Agree}
+
+-- a call that brings a request means that request, or nothing
+abbrev pub MeansAsked : (src seq : ℕ) → Event → Type 0
+MeansAsked src seq aTick = ⊥
+MeansAsked src seq (aSync s c) = ⊥
+MeansAsked src seq (aRequest r) = (r .src ≡ src) × (r .seq ≡ seq)
+MeansAsked src seq (aRefusedWrite r) = Unit {0}
+MeansAsked src seq (anAssignment sid) = ⊥
+MeansAsked src seq nothing = Unit {0}
+
+abbrev pub Ignored : Entry → Type 0
+Ignored e = (src seq : ℕ) → Brings (e .call) src seq → ((r : Request) → r .src ≡ src → r .seq ≡ seq → event e ≡ aRequest r → ⊥) → Unchanged e
+
+module _ (v u : View) (call : Call) (n : ℕ) (means : Event) (src seq : ℕ) (b : Brings call src seq) (m : MeansAsked src seq means)
+    (not-so : (r : Request) → r .src ≡ src → r .seq ≡ seq → means ≡ aRequest r → ⊥) where
+  accepted-so : (r : Request) → means ≡ aRequest r → ⊥
+  accepted-so r e = let x = subst (MeansAsked src seq) e m in not-so r (x .0) (x .1) e
+
+  -- the view as it was, but for k
+  pub unchanged-by : {w : View} {ok : Bool} → Did v call ok means w → Agree u w → Unchanged (entryOf v call n means u)
+  unchanged-by (fellAtTick e) a = absurd (subst (MeansAsked src seq) e m)
+  unchanged-by (fellAtTickAndEnd e) a = absurd (subst (MeansAsked src seq) e m)
+  unchanged-by (tickedOn e below) a = absurd (subst (MeansAsked src seq) e m)
+  unchanged-by (tickedOnAndEnd e below) a = absurd (subst (MeansAsked src seq) e m)
+  unchanged-by (kept e) a = record { outputs = a .registers .out; mode = a .mode }
+  unchanged-by (lost e none) a = absurd (none src seq b)
+  unchanged-by (heardOnly s c e known) a = absurd (subst (MeansAsked src seq) e m)
+  unchanged-by (enteredRun s c e known p q) a = absurd (subst (MeansAsked src seq) e m)
+  unchanged-by (takenOnly r e due) a = record { outputs = a .registers .out; mode = a .mode }
+  unchanged-by (asked r e due w) a = absurd (accepted-so r e)
+  unchanged-by (configured r t c l e due w p) a = absurd (accepted-so r e)
+  unchanged-by (releasedBy r e due w o) a = absurd (accepted-so r e)
+  unchanged-by (withdrawn r e due w) a = absurd (accepted-so r e)
+  unchanged-by (output r add xs ok e due w run laid) a = absurd (accepted-so r e)
+  unchanged-by (namedFirst sid e no-one) a = absurd (subst (MeansAsked src seq) e m)
+  unchanged-by (acknowledged sid e named-is) a = absurd (subst (MeansAsked src seq) e m)

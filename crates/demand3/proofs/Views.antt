@@ -1,0 +1,83 @@
+-- What demand 3 looks at of an agent, part by part: what its registers show, the numbering of requests, the clocks. When two
+-- views agree, and what a sound state says of its view. Assumes nothing.
+use mathlib.Core.Bool.{Bool, true, not}
+use mathlib.Core.List.{List}
+use mathlib.Core.Path.{_≡_}
+use Prim.Native.Nat.{ℕ, _+_, _≤_, _<_}
+use lib.Dec.{eqb}
+use lib.ListN.{getD}
+use Rattle.rules.specs.Registers.{sidAt, outRep, tcyc, cnfRep, cnfCyc, outputsAt, image, lowNumber}
+use Rattle.rules.specs.State.{inRun, inFallback, nobody}
+use Rattle.rules.specs.declared.Agent.{Agent}
+
+-- what its registers show: OUT_REP, t, n, m, the outputs, the SID
+pub record Registers : Type 0 where
+  pub rep : ℕ
+  pub t : ℕ
+  pub n : ℕ
+  pub m : ℕ
+  pub out : ℕ → ℕ
+  pub sid : ℕ
+
+-- the numbering of requests: the source of the last sync, whether the cycle is heard, c and k
+pub record Cycle : Type 0 where
+  pub last : ℕ
+  pub heard : ℕ
+  pub c : ℕ
+  pub k : ℕ
+
+-- the clocks: s and q
+pub record Clocks : Type 0 where
+  pub s : ℕ
+  pub q : ℕ
+
+-- with the mode, and whether a SID is assigned
+pub record View : Type 0 where
+  pub mode : ℕ
+  pub assigned : Bool
+  pub registers : Registers
+  pub cycle : Cycle
+  pub clocks : Clocks
+
+abbrev pub registersOf : List ℕ → Registers
+registersOf r = record {
+  rep = getD r outRep 0;
+  t = getD r tcyc 0;
+  n = getD r cnfCyc 0;
+  m = getD r cnfRep 0;
+  out = λ i. getD r (outputsAt + i) 0;
+  sid = lowNumber r sidAt 3;
+}
+
+abbrev pub viewOf : Agent → View
+viewOf a = record {
+  mode = a .mode;
+  assigned = not (eqb (a .count) 0);
+  registers = registersOf (a .regs);
+  cycle = record { last = a .last; heard = a .heard; c = a .cycle; k = a .taken };
+  clocks = record { s = a .silence; q = a .idle };
+}
+
+-- two views agree, the outputs one by one
+pub record SameRegisters (x y : Registers) : Type 0 where
+  pub rep : x .rep ≡ y .rep
+  pub t : x .t ≡ y .t
+  pub n : x .n ≡ y .n
+  pub m : x .m ≡ y .m
+  pub out : (i : ℕ) → i < image → x .out i ≡ y .out i
+  pub sid : x .sid ≡ y .sid
+
+pub record Agree (v w : View) : Type 0 where
+  pub mode : v .mode ≡ w .mode
+  pub assigned : v .assigned ≡ w .assigned
+  pub registers : SameRegisters (v .registers) (w .registers)
+  pub cycle : v .cycle ≡ w .cycle
+  pub clocks : v .clocks ≡ w .clocks
+
+-- what a sound state says of its view
+pub record Facts (v : View) : Type 0 where
+  pub modes : (v .mode ≡ inRun → ⊥) → v .mode ≡ inFallback
+  pub cold : v .mode ≡ inFallback → (i : ℕ) → i < image → v .registers .out i ≡ 0
+  pub t : v .registers .t ≤ 255
+  pub n : v .registers .n ≤ 255
+  pub known : (v .cycle .last ≡ nobody → ⊥) → v .assigned ≡ true
