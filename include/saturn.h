@@ -1,22 +1,47 @@
-/* The bus agent of one SIL2 output module, for C. The caller owns the agent; each call alters it in place.
+/* The bus agent of one SIL2 output module, for C11 and C++. The caller owns the agent; each call alters it in place.
+ *
+ * The main loop:
+ * - saturn_power_up once; then saturn_tick every millisecond, saturn_frame for each body received, saturn_inputs when the
+ *   inputs change.
+ * - After every call, ticks included, copy the output image, regs[SATURN_REG_OUTPUTS] and the 63 after it, to the terminals.
+ *   In fallback it is all zero.
+ * - When a call answers SATURN_UNSOUND (19), switch the terminals off and call saturn_power_up. The state was damaged from
+ *   outside. Every further call would answer 19 and leave it as it is: a module that was in RUN would stay in RUN with its
+ *   outputs on, since no time limit runs any more. After saturn_power_up give the inputs again; the concentrators must
+ *   assign and release the module again.
+ *   19 does not replace a memory test: damage that leaves a state sound, say in the outputs in RUN, is not seen.
  *
  * What the caller keeps:
- * - every pointer is valid for the whole length and aligned for its type, and is not null, even for no bytes;
- * - agent, reply and sent overlap neither one another nor body and inputs;
- * - during a call nothing else, an interrupt included, writes any of them, or reads agent, reply and sent.
- * Nothing is asked of what they hold: an agent whose state is unsound is refused (SATURN_UNSOUND) and left as it is.
- * No call keeps a pointer after it returns. */
+ * - Every pointer is valid for the whole length and aligned for its type. No pointer is null: with length 0 too, give the
+ *   address of some byte. What a null pointer does is not defined, even with length 0.
+ * - agent, reply and sent overlap neither one another nor body and inputs.
+ * - During a call nothing else, an interrupt included, writes any of them, or reads agent, reply and sent.
+ * Nothing is asked of what they hold. No call keeps a pointer after it returns.
+ *
+ * What the library needs:
+ * - x86-64 with SSE2 and the System V calling convention. It uses SSE registers and the red zone: on bare metal enable SSE
+ *   before the first call, and let no interrupt use the 128 bytes below the stack pointer.
+ * - memcpy and memset, and nothing else: no heap, no other library.
+ * - 4,000 bytes of stack in the deepest call (measured, not proved; docs/PROVED.md, 'Figures').
+ * It has no static data that is written. Agents may run in parallel, each with its own buffers. */
 #ifndef SATURN_H
 #define SATURN_H
 
 #include <stddef.h>
 #include <stdint.h>
 
+/* of this header and the library that it was installed with */
+#define SATURN_VERSION_MAJOR 1
+#define SATURN_VERSION_MINOR 0
+#define SATURN_VERSION_PATCH 0
+#define SATURN_VERSION "1.0.0"
+
 #ifdef __cplusplus
 extern "C" {
 #endif
 
-/* the state, field by field as in crates/rules/src/lib.rt; 304 bytes, aligned to 4 */
+/* The state, field by field as in crates/rules/src/lib.rt. The last 2 of its 304 bytes are padding, and a call may change
+ * them: compare two agents field by field, not with memcmp. */
 typedef struct saturn_agent {
     uint8_t regs[256]; /* the registers */
     uint32_t known[8]; /* the recorded concentrators, the first `count` of them; power-up puts FFFFFFh in all */
@@ -31,7 +56,45 @@ typedef struct saturn_agent {
     uint8_t count;     /* how many concentrators are recorded */
 } saturn_agent;
 
+/* a compiler that lays the struct out in another way cannot use the library */
+#define SATURN_AGENT_SIZE 304
+#if defined(__cplusplus)
+static_assert(sizeof(saturn_agent) == SATURN_AGENT_SIZE && alignof(saturn_agent) == 4, "saturn_agent is not as in the library");
+#else
+_Static_assert(sizeof(saturn_agent) == SATURN_AGENT_SIZE && _Alignof(saturn_agent) == 4, "saturn_agent is not as in the library");
+#endif
+
 enum { SATURN_FALLBACK = 0, SATURN_RUN = 1 };
+
+/* Addresses in regs. A number of several bytes has its low byte at the low address. */
+enum {
+    SATURN_REG_MAC = 0x00,       /* 8 bytes */
+    SATURN_REG_IID = 0x08,       /* 8 bytes */
+    SATURN_REG_TYP = 0x10,       /* always 82h */
+    SATURN_REG_VER = 0x11,       /* 2 bytes */
+    SATURN_REG_TID = 0x13,       /* 8Fh until assigned */
+    SATURN_REG_SID = 0x14,       /* 3 bytes; FFFFFFh until assigned */
+    SATURN_REG_OUT_REP = 0x17,   /* 55h: released; AAh: not */
+    SATURN_REG_TCYC = 0x18,      /* t: the cycle in ms */
+    SATURN_REG_STATUT = 0x19,    /* the status; bit 7 is set in fallback */
+    SATURN_REG_CNF_REP = 0x1A,   /* m: cycles without an output write until fallback */
+    SATURN_REG_CNF_CYC = 0x1B,   /* n: cycles without a sync until fallback */
+    SATURN_REG_AD_REF = 0x1C,    /* the reply to a sync carries the registers from here */
+    SATURN_REG_SZ_REF = 0x1D,    /* and so many of them */
+    SATURN_REG_CPT_TOCO1 = 0x1E, /* counters, to CPT_FOR; the agent itself counts CPT_SEQ and CPT_FOR alone */
+    SATURN_REG_CPT_TOCO2 = 0x1F,
+    SATURN_REG_CPT_SEQ = 0x20,   /* frames with a wrong CYC or SEQ */
+    SATURN_REG_CPT_TOAC1 = 0x21,
+    SATURN_REG_CPT_TOAC2 = 0x22,
+    SATURN_REG_CPT_SYNC = 0x23,
+    SATURN_REG_CPT_FOR = 0x24,   /* frames of a TYP that is not served */
+    SATURN_REG_CONF = 0x25,      /* bit 2 set: nothing is sent */
+    SATURN_REG_OUTPUTS = 0x80,   /* SATURN_IMAGE bytes: the output image */
+    SATURN_REG_INPUTS = 0xC0     /* SATURN_IMAGE bytes: the inputs */
+};
+
+/* how many outputs and how many inputs there are, in bytes */
+enum { SATURN_IMAGE = 64 };
 
 /* the least length of the reply buffer */
 enum { SATURN_REPLY_ROOM_LEAST = 545 };
@@ -40,7 +103,7 @@ enum { SATURN_REPLY_ROOM_LEAST = 545 };
 enum {
     SATURN_ACCEPTED = 0,
     /* the line */
-    SATURN_BODY_LENGTH = 1,      /* the body has not 7 to 543 bytes */
+    SATURN_BODY_LENGTH = 1,      /* the body does not have 7 to 543 bytes */
     SATURN_STUFFING = 2,         /* behind the address, a 7Eh, or a 7Dh not followed by 5Dh or 5Eh */
     SATURN_UNSTUFFED_LENGTH = 3, /* not 7 to 272 bytes without stuffing */
     SATURN_FCS = 4,
@@ -61,10 +124,40 @@ enum {
     SATURN_NOT_ALLOWED = 17,   /* TID or SID not allowed */
     SATURN_EIGHT_OTHERS = 18,  /* eight others are recorded */
     /* the caller */
-    SATURN_UNSOUND = 19,    /* unsound state */
+    SATURN_UNSOUND = 19,    /* unsound state: see the main loop above */
     SATURN_REPLY_ROOM = 20, /* reply buffer under 545 bytes */
     SATURN_HOST_INPUT = 21  /* port not 1 or 2, or inputs not 64 bytes */
 };
+
+/* An answer in words, for logs and displays. */
+static inline const char *saturn_answer_text(uint8_t answer)
+{
+    switch (answer) {
+    case SATURN_ACCEPTED: return "accepted";
+    case SATURN_BODY_LENGTH: return "body not 7 to 543 bytes";
+    case SATURN_STUFFING: return "stuffing";
+    case SATURN_UNSTUFFED_LENGTH: return "unstuffed length not 7 to 272";
+    case SATURN_FCS: return "FCS";
+    case SATURN_RESERVED: return "reserved address";
+    case SATURN_ELSEWHERE: return "addressed to another station";
+    case SATURN_TYP: return "TYP unknown or not served";
+    case SATURN_FORM: return "length, COM or sync address wrong for the TYP";
+    case SATURN_CRC: return "safety CRC";
+    case SATURN_SOURCE: return "source not the one demanded";
+    case SATURN_ADDRESSEE: return "SID, MAC or IID of another module";
+    case SATURN_CYCLE: return "CYC not the one due";
+    case SATURN_REPEAT: return "copy of a frame taken before";
+    case SATURN_OUT_OF_ORDER: return "SEQ not the one due";
+    case SATURN_TOO_MANY: return "64 requests taken in the cycle";
+    case SATURN_OUTSIDE_RULES: return "write outside the rules";
+    case SATURN_NOT_ALLOWED: return "TID or SID not allowed";
+    case SATURN_EIGHT_OTHERS: return "eight other concentrators recorded";
+    case SATURN_UNSOUND: return "unsound state";
+    case SATURN_REPLY_ROOM: return "reply buffer under 545 bytes";
+    case SATURN_HOST_INPUT: return "port not 1 or 2, or inputs not 64 bytes";
+    default: return "not an answer";
+    }
+}
 
 /* Power-up: the agent is in fallback, unheard, with nobody recorded and the registers as after power-up with these
  * MAC, IID and VER, whatever it held before. */

@@ -24,7 +24,10 @@ static struct {
     uint8_t after[64];
 } m;
 
-static uint8_t reply[545];
+static uint8_t reply[SATURN_REPLY_ROOM_LEAST];
+
+/* the bytes of the struct before its padding; there is none between the fields */
+enum { USED = offsetof(saturn_agent, count) + 1 };
 
 static uint8_t frame(const uint8_t *body, size_t length)
 {
@@ -39,8 +42,26 @@ static void unsound(size_t offset, uint8_t value, const char *what)
     ((uint8_t *)&m.agent)[offset] = value;
     saturn_agent set = m.agent;
     expect(saturn_tick(&m.agent) == SATURN_UNSOUND, what);
-    expect(memcmp(&m.agent, &set, sizeof set) == 0, "an unsound agent is left as it is");
+    expect(memcmp(&m.agent, &set, USED) == 0, "an unsound agent is left as it is");
     m.agent = kept;
+}
+
+static void registers_at_power_up(void)
+{
+    static const struct {
+        uint8_t at, value;
+    } wanted[] = {
+        {SATURN_REG_IID, 0x02},     {SATURN_REG_TYP, 0x82},     {SATURN_REG_VER, 0x03},     {SATURN_REG_VER + 1, 0x04},
+        {SATURN_REG_TID, 0x8F},     {SATURN_REG_SID, 0xFF},     {SATURN_REG_SID + 2, 0xFF}, {SATURN_REG_OUT_REP, 0xAA},
+        {SATURN_REG_TCYC, 0xFF},    {SATURN_REG_STATUT, 0x80},  {SATURN_REG_CNF_REP, 0x05}, {SATURN_REG_CNF_CYC, 0x02},
+        {SATURN_REG_AD_REF, 0x80},  {SATURN_REG_SZ_REF, 0x08},  {SATURN_REG_CPT_SEQ, 0},    {SATURN_REG_CPT_FOR, 0},
+        {SATURN_REG_CONF, 0},       {SATURN_REG_CONF + 1, 0xFF}, {SATURN_REG_OUTPUTS - 1, 0xFF}, {SATURN_REG_OUTPUTS, 0},
+        {SATURN_REG_INPUTS + SATURN_IMAGE - 1, 0},
+    };
+    for (unsigned i = 0; i < 8; i++)
+        expect(m.agent.regs[SATURN_REG_MAC + i] == i + 1, "MAC");
+    for (unsigned i = 0; i < sizeof wanted / sizeof wanted[0]; i++)
+        expect(m.agent.regs[wanted[i].at] == wanted[i].value, "the registers at power-up, by their addresses");
 }
 
 int main(void)
@@ -49,10 +70,7 @@ int main(void)
     saturn_power_up(&m.agent, 0x0807060504030201, 2, 0x0403);
     for (unsigned i = 0; i < 64; i++)
         expect(m.before[i] == 0xEE && m.after[i] == 0xEE, "the library writes inside the struct alone");
-    for (unsigned i = 0; i < 8; i++)
-        expect(m.agent.regs[i] == i + 1, "MAC in registers 00h to 07h");
-    expect(m.agent.regs[0x11] == 0x03 && m.agent.regs[0x12] == 0x04 && m.agent.regs[0x10] == 0x82, "TYP and VER");
-    expect(m.agent.regs[0xFF] == 0, "the last register");
+    registers_at_power_up();
     for (unsigned i = 0; i < 8; i++)
         expect(m.agent.known[i] == 0xFFFFFF, "known");
     expect(m.agent.last == 0xFFFFFF, "last");
@@ -65,7 +83,7 @@ int main(void)
         saturn_tick(&m.agent);
     expect(m.agent.elapsed == 0 && m.agent.silence == 255 && m.agent.cycle == 1, "cycle");
 
-    expect(frame(TID_ASSIGNMENT, sizeof TID_ASSIGNMENT) == 0 && m.agent.regs[0x13] == 0x05, "TID");
+    expect(frame(TID_ASSIGNMENT, sizeof TID_ASSIGNMENT) == 0 && m.agent.regs[SATURN_REG_TID] == 0x05, "TID");
     expect(frame(SID_BY_A, sizeof SID_BY_A) == 0 && m.agent.count == 1 && m.agent.known[0] == 7, "count and known");
     expect(frame(SYNC_A_10, sizeof SYNC_A_10) == 0 && m.agent.heard == 1 && m.agent.last == 7 && m.agent.cycle == 0x10, "heard and last");
     expect(frame(RELEASE_BY_A, sizeof RELEASE_BY_A) == 0 && m.agent.taken == 1 && m.agent.mode == SATURN_FALLBACK, "taken");

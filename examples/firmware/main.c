@@ -1,28 +1,46 @@
-/* A firmware's main loop over the bus agent: a simulated millisecond and two ring ports. It plays the opening steps:
- * power up, assign, release, sync, write, cut the active concentrator, let the next one take the ring; and prints what a
- * fitter would see. */
+/* A firmware's main loop over the bus agent: a simulated millisecond, two ring ports and the terminals. It plays the opening
+ * steps: power up, assign, release, sync, write, cut the active concentrator, let the next one take the ring; and prints what
+ * a fitter would see. With a word on the command line it damages the state instead of cutting the concentrator, and shows how
+ * the loop reacts. */
 #include <stdint.h>
 #include <stdio.h>
 #include <stddef.h>
+#include <string.h>
 
 #include "saturn.h"
 #include "bodies.h"
 
-#define ROOM 545
+#define MAC 1
+#define IID 2
+#define VER 0
 
 static saturn_agent module;
-static uint8_t reply[ROOM];
+static const uint8_t given[SATURN_IMAGE] = {0xA5}; /* the inputs */
+static uint8_t terminals[SATURN_IMAGE];            /* the outputs */
+static uint8_t reply[SATURN_REPLY_ROOM_LEAST];
 static unsigned long now_ms;
+
+/* After every call: a state that was damaged is given up, terminals first; then the output image goes to the terminals. */
+static void after_call(uint8_t answer)
+{
+    if (answer == SATURN_UNSOUND) {
+        memset(terminals, 0, sizeof terminals);
+        printf("%6lu ms  answer %u, %s: terminals off, power up\n", now_ms, answer, saturn_answer_text(answer));
+        saturn_power_up(&module, MAC, IID, VER);
+        saturn_inputs(&module, given, sizeof given);
+    }
+    memcpy(terminals, &module.regs[SATURN_REG_OUTPUTS], sizeof terminals);
+}
 
 static void show(const char *event, uint8_t answer, uint16_t sent)
 {
     printf("%6lu ms  %-52s answer %2u  %-8s  cycle %02X  outputs %02X %02X  reply ", now_ms, event, answer,
-           module.mode ? "RUN" : "fallback", module.cycle, module.regs[0x80], module.regs[0x81]);
+           module.mode == SATURN_RUN ? "RUN" : "fallback", module.cycle, terminals[0], terminals[1]);
     if (sent == 0) {
         puts("-");
         return;
     }
-    for (uint16_t i = 0; i < sent && i < ROOM; i++)
+    for (uint16_t i = 0; i < sent && i < sizeof reply; i++)
         printf("%02X", reply[i]);
     puts("");
 }
@@ -31,6 +49,7 @@ static void frame(const char *event, uint8_t port, const uint8_t *body, size_t l
 {
     uint16_t sent = 0;
     uint8_t answer = saturn_frame(&module, port, body, length, reply, sizeof reply, &sent);
+    after_call(answer);
     show(event, answer, sent);
 }
 
@@ -39,21 +58,28 @@ static void wait_ms(const char *event, unsigned count)
 {
     uint8_t answer = 0;
     for (unsigned i = 0; i < count; i++) {
-        answer = saturn_tick(&module);
         now_ms++;
+        answer = saturn_tick(&module);
+        after_call(answer);
     }
+    show(event, answer, 0);
+}
+
+static void inputs(const char *event)
+{
+    uint8_t answer = saturn_inputs(&module, given, sizeof given);
+    after_call(answer);
     show(event, answer, 0);
 }
 
 #define FRAME(event, port, body) frame(event, port, body, sizeof body)
 
-int main(void)
+/* from power-up to RUN with outputs on */
+static void opening(void)
 {
-    uint8_t inputs[64] = {0xA5};
-
-    saturn_power_up(&module, 1, 2, 0);
+    saturn_power_up(&module, MAC, IID, VER);
     show("power up", 0, 0);
-    show("inputs from the host", saturn_inputs(&module, inputs, sizeof inputs), 0);
+    inputs("inputs from the host");
     FRAME("TID 05h is assigned", 1, TID_ASSIGNMENT);
     FRAME("SID 000005h is assigned by concentrator 7", 1, SID_BY_A);
     FRAME("the same by concentrator 8", 2, SID_BY_B);
@@ -62,6 +88,10 @@ int main(void)
     wait_ms("a cycle passes", 255);
     FRAME("sync of concentrator 7, CYC 11h: RUN", 1, SYNC_A_11);
     FRAME("its write of 01 FF to the outputs", 1, WRITE_BY_A);
+}
+
+static void next_concentrator(void)
+{
     FRAME("a copy of it on the other port", 2, WRITE_BY_A);
     wait_ms("concentrator 7 is cut, a cycle passes", 255);
     FRAME("sync of concentrator 8, CYC 12h: it takes the ring", 2, SYNC_B_12);
@@ -70,5 +100,25 @@ int main(void)
     FRAME("concentrator 8 reads STATUT", 2, READ_STATUT_BY_B);
     wait_ms("the ring is silent", 509);
     wait_ms("one millisecond more: fallback, outputs zero", 1);
+}
+
+/* a stray write into the state, which the next call finds */
+static void damage(void)
+{
+    module.taken = 0xFF;
+    show("the state is damaged: outputs are still on", 0, 0);
+    wait_ms("the next millisecond", 1);
+    FRAME("TID 05h is assigned again", 1, TID_ASSIGNMENT);
+    FRAME("SID 000005h is assigned by concentrator 7", 1, SID_BY_A);
+}
+
+int main(int argc, char **argv)
+{
+    (void)argv;
+    opening();
+    if (argc > 1)
+        damage();
+    else
+        next_concentrator();
     return 0;
 }
