@@ -1,5 +1,5 @@
--- What a call does: one case for each effect, with what is known where it happens. The rules are taken apart here and
--- nowhere else: whoever proves something of every call matches on these. Assumes nothing.
+-- What a call does: one case for each effect, with what is known where it happens; a refusal leaves what its row says.
+-- Whoever proves something of every call matches on these, and need not take the rules apart. Assumes nothing.
 use mathlib.Core.Bool.{Bool, true, false, not, _&&_, _||_}
 use mathlib.Core.List.{List}
 use mathlib.Core.Path.{_≡_, refl, sym, ap, subst}
