@@ -11,7 +11,6 @@ use lib.ListN.{length, getD, replicate, length-replicate, getD-replicate}
 use lib.Seq.{sets, length-sets}
 use Rattle.base.proofs.Choosing.{and-left, and-right}
 use Rattle.base.proofs.Stored.{stored-in}
-use Rattle.demand3.proofs.StoredPlaces.{stored-outside, stored-choice}
 use Rattle.rules.specs.Fallback.{released, withheld, enterFallback, enterRun}
 use Rattle.rules.specs.Marks.{counter}
 use Rattle.rules.specs.Registers.{sidAt, outRep, tcyc, statut, cnfRep, cnfCyc, outputsAt, image, lowBytes}
@@ -22,6 +21,7 @@ use Rattle.rules.proofs.MarkSteps.{Marks, none, counts}
 use Rattle.demand3.proofs.Effects.{fallen, runs, limits, releases, outputs, named}
 use Rattle.demand3.proofs.LowNumbers.{low-number-same, low-number-stored}
 use Rattle.demand3.proofs.RegisterViews.{Apart, apart-same, apart-status, apart-middle}
+use Rattle.demand3.proofs.StoredPlaces.{stored-outside, stored-choice}
 use Rattle.demand3.proofs.Views.{Registers, Clocks, View, registersOf, viewOf, SameRegisters, Agree}
 
 -- ---- what agrees

@@ -5,19 +5,19 @@ use mathlib.Core.Path.{_≡_, refl, sym, _∙_, subst}
 use Prim.Native.Nat.{ℕ, _+_, _*_, _≤_, _<_, min}
 use native.Mathlib.Nat.{mul-le-mul}
 use native.Mathlib.Omega.{arith}
-use lib.Dec.{ltb}
 use borrow.Author.Tests.{ltb-true, ltb-false}
+use lib.Dec.{ltb}
 use Rattle.base.specs.Choice.{choose}
 use Rattle.base.proofs.Choosing.{by-test}
 use Rattle.rules.specs.Calls.{Call}
 use Rattle.rules.specs.Fallback as fallback
-use Rattle.demand3.specs.Numbers.{inRun, inFallback, unsound}
 use Rattle.rules.specs.Tick.{silenceEnd}
 use Rattle.demand3.specs.Claim.{Safe, Enters, Bounded}
 use Rattle.demand3.specs.Events.{Event, aTick, aSync, aRequest, aRefusedWrite, anAssignment, nothing, ordersRelease, Request}
 use Rattle.demand3.specs.History.{History, powerOn, _▸_, Entry, Seen}
-use Rattle.demand3.proofs.Device.{Device, entryOf, HistoryOf, of-each}
+use Rattle.demand3.specs.Numbers.{inRun, inFallback, unsound}
 use Rattle.demand3.specs.Words.{silenceAfter, silence, EntersRun, TickAtSyncLimit, Released, ordered, still}
+use Rattle.demand3.proofs.Device.{Device, entryOf, HistoryOf, of-each}
 
 -- what matters of a module here: what is seen, OUT_REP, and s
 pub record Watchdog : Type 0 where

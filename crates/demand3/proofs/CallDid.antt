@@ -38,8 +38,8 @@ use Rattle.demand3.proofs.RequestDid.{is-due, at-due, is-laid}
 use Rattle.demand3.proofs.Steps.{Leaves, Shown, untaken, after-reply, keeps, refused}
 use Rattle.demand3.proofs.SyncDid.{synced-did, fell-did}
 use Rattle.demand3.proofs.TickDid.{tick-did}
-use Rattle.demand3.proofs.WriteDid.{taken-view, span-did}
 use Rattle.demand3.proofs.Views.{viewOf}
+use Rattle.demand3.proofs.WriteDid.{taken-view, span-did}
 
 -- a SID in a frame has 24 bits
 sid-small : (address src sec mac sid n : ℕ) → fits address (SidAssignment src sec mac sid) n ≡ true → sid < 256 ^ 3

@@ -4,21 +4,21 @@ use mathlib.Core.List.{List}
 use mathlib.Core.Path.{_≡_, refl}
 use Prim.Native.Nat.{ℕ, _+_, _-_, _≤_, _<_}
 use native.Mathlib.Omega.{arith}
+use borrow.Author.Tests.{le-leb, lt-leb, lt-ltb, le-ltb}
 use lib.Dec.{leb, ltb}
 use lib.ListN.{length, getD}
-use borrow.Author.Tests.{le-leb, lt-leb, lt-ltb, le-ltb}
 use Rattle.base.specs.Choice.{choose}
 use Rattle.base.proofs.Choosing.{choose-false}
-use Rattle.demand3.specs.Numbers.{isAccepted}
 use Rattle.rules.specs.Calls.{Call}
 use Rattle.rules.specs.Registers.{outputsAt}
 use Rattle.rules.specs.State.{inRun}
 use Rattle.demand3.specs.Claim.{Written, written}
 use Rattle.demand3.specs.Events.{Event, aTick, aRequest, writesOutputs, Request}
 use Rattle.demand3.specs.History.{History}
+use Rattle.demand3.specs.Numbers.{isAccepted}
 use Rattle.demand3.proofs.Effects.{Due, LaidWrite, takes, outputs}
-use Rattle.demand3.proofs.Link.{Linked, Kept, entryOf, not-both, no-tick}
 use Rattle.demand3.proofs.KeptRequests.{is-fresh, all-differ, numbered, takes-accepted}
+use Rattle.demand3.proofs.Link.{Linked, Kept, entryOf, not-both, no-tick}
 use Rattle.demand3.proofs.Views.{View, Facts}
 
 -- register j after the bytes xs are written from add on

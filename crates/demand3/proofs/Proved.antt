@@ -17,10 +17,10 @@ use Rattle.demand3.specs.Claim.{BytesCalls, Demand3}
 use Rattle.demand3.specs.Events.{eventOf}
 use Rattle.demand3.specs.History.{History, powerOn, _▸_, entry, history}
 use Rattle.demand3.specs.Sharper.{Sharpened}
+use Rattle.demand3.proofs.AskedEvents.{means-asked}
 use Rattle.demand3.proofs.CallDid.{step-did}
 use Rattle.demand3.proofs.Deposed.{sharper}
 use Rattle.demand3.proofs.Device.{HistoryOf, start, step}
-use Rattle.demand3.proofs.AskedEvents.{means-asked}
 use Rattle.demand3.proofs.SafeModules.{StartsSafe, safeModule, holds}
 use Rattle.demand3.proofs.SoundFacts.{good-facts}
 use Rattle.demand3.proofs.Views.{viewOf}

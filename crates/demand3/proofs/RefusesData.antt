@@ -5,16 +5,16 @@ use mathlib.Core.List.{List, [], _∷_, _++_}
 use mathlib.Core.Path.{_≡_, refl, _∙_}
 use Prim.Native.Nat.{ℕ, zero, suc, _+_, _-_, _/_, _%_, _≤_, _<_}
 use native.Mathlib.Omega.{arith}
+use borrow.Author.Tests.{leb-true, leb-false}
 use lib.Dec.{eqb, leb}
 use lib.ListN.{length, getD, length-append}
-use borrow.Author.Tests.{leb-true, leb-false}
 use Rattle.base.specs.Bytes.{bytesOf}
 use Rattle.base.proofs.Choosing.{by-test}
-use Rattle.wire.specs.Laying.{bodyOf, bodyWith}
-use Rattle.wire.specs.Stuffing.{stuff, stuffByte}
-use Rattle.fields.specs.Fields.{laid}
 use Rattle.crc.specs.Crc.{crcOf}
 use Rattle.crc.specs.declared.Poly.the-variants.{Safety}
+use Rattle.fields.specs.Fields.{laid}
+use Rattle.wire.specs.Laying.{bodyOf, bodyWith}
+use Rattle.wire.specs.Stuffing.{stuff, stuffByte}
 use Rattle.wire.specs.Body.{fcsOf}
 use Rattle.frames.specs.Kinds.{headOf, tailOf, appOf, sealed}
 use Rattle.frames.specs.declared.kinds.Frame.the-variants.{SafeWrite}

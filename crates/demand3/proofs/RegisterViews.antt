@@ -6,9 +6,9 @@ use Prim.Native.Nat.{ℕ, _+_, _≤_, _<_}
 use native.Mathlib.Omega.{arith}
 use lib.ListN.{length}
 use lib.Seq.{sets}
-use Rattle.demand3.proofs.StoredPlaces.{stored-outside}
 use Rattle.rules.specs.Registers.{sidAt, outRep, tcyc, cnfRep, cnfCyc, outputsAt}
 use Rattle.demand3.proofs.LowNumbers.{low-number-same}
+use Rattle.demand3.proofs.StoredPlaces.{stored-outside}
 use Rattle.demand3.proofs.Views.{registersOf, SameRegisters}
 
 -- ---- a run apart from the view: no register that it touches is shown

@@ -19,8 +19,8 @@ use Rattle.demand3.specs.Numbers.{firstSeq}
 use Rattle.demand3.proofs.Effects.{Told, Due, LaidWrite}
 use Rattle.demand3.proofs.FrameEvents.{Carries}
 use Rattle.demand3.proofs.SameNumbers.{same-first-seq}
-use Rattle.demand3.proofs.WriteDid.{oneMore}
 use Rattle.demand3.proofs.Views.{viewOf}
+use Rattle.demand3.proofs.WriteDid.{oneMore}
 
 abbrev pub asking : (dest src cyc seq : ℕ) → Ask → Request
 asking dest src cyc seq ask = record { dest = dest; src = src; cyc = cyc; seq = seq; ask = ask }

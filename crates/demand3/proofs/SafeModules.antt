@@ -5,13 +5,13 @@ use mathlib.Core.Path.{_≡_, refl, sym, _∙_}
 use Prim.Native.Nat.{ℕ}
 use native.Mathlib.Omega.{arith}
 use Rattle.base.proofs.Choosing.{never}
-use Rattle.demand3.specs.Numbers.{isAccepted, unsound}
 use Rattle.rules.specs.Calls.{Call}
 use Rattle.rules.specs.Fallback.{withheld}
 use Rattle.rules.specs.State.{inFallback, unheard}
 use Rattle.demand3.specs.Claim.{Everywhere, Holds}
 use Rattle.demand3.specs.Events.{Event, Request}
 use Rattle.demand3.specs.History.{History, powerOn, Entry}
+use Rattle.demand3.specs.Numbers.{isAccepted, unsound}
 use Rattle.demand3.specs.Sharper.{Takes, Fresh, Brings}
 use Rattle.demand3.proofs.BoundedModules.{StartsBounded, CallBounded, boundedModule, bounded}
 use Rattle.demand3.proofs.Device.{Device, HistoryOf, of-each, does-as}
@@ -19,8 +19,8 @@ use Rattle.demand3.proofs.Effects.{Did}
 use Rattle.demand3.proofs.Ignored.{MeansAsked, Ignored, unchanged-by}
 use Rattle.demand3.proofs.KeptAll.{kept-by}
 use Rattle.demand3.proofs.Link.{Linked, Kept, Fine, seenOf, entryOf}
-use Rattle.demand3.proofs.SafeIsBounded.{watchdogOf, moved}
 use Rattle.demand3.proofs.Numbering.{when-unheard}
+use Rattle.demand3.proofs.SafeIsBounded.{watchdogOf, moved}
 use Rattle.demand3.proofs.Shown.{shows-kept}
 use Rattle.demand3.proofs.Views.{View, Agree, Facts}
 
@@ -48,7 +48,7 @@ safeModule = record { State = View; seen = seenOf; Starts = StartsSafe; Moves = 
 
 -- ---- bounded
 call-bounded : (v u : View) (call : Call) (n : ℕ) (means : Event) → CallSafe v call n means u → CallBounded (watchdogOf v) call n means (watchdogOf u)
-call-bounded v u call n means s = record { sound = s .sound; move = moved v u (s .facts) call n means (s .did) (s .shows) }
+call-bounded v u call n means s = record { sound = s .sound; move = moved v u (s .facts) call (s .did) (s .shows) }
 
 starts-bounded : (v : View) → StartsSafe v → StartsBounded (watchdogOf v)
 starts-bounded v s = record { mode = s .mode; rep = s .rep; s = s .s }
@@ -71,7 +71,13 @@ pub record One (h : History) (e : Entry) : Type 0 where
   pub ignored : Ignored e
 
 known : (h : History) (v u : View) (call : Call) (n : ℕ) (means : Event) → CallSafe v call n means u → Linked h v → One h (entryOf v call n means u)
-known h v u call n means s l = let k = call-kept h v u call n means s l in record { fine = k .fine; fresh = k .fresh; ignored = λ src seq b not-so. unchanged-by v u call n means src seq b (s .asked src seq b) not-so (s .did) (s .shows) }
+known h v u call n means s l =
+    let k = call-kept h v u call n means s l in
+    record {
+      fine = k .fine;
+      fresh = k .fresh;
+      ignored = λ src seq b not-so. unchanged-by v u call n means src seq b (s .asked src seq b) not-so (s .did) (s .shows);
+    }
 
 pub each-call : {h : History} {v : View} → HistoryOf safeModule h v → Everywhere One h
 each-call = of-each safeModule Linked start-link (λ h v u call n means s l. call-kept h v u call n means s l .link) One known
