@@ -1,13 +1,4 @@
-pub mod StoredPast
-pub mod CallLaws
-pub mod LowNumbers
 pub mod OtherArms
 pub mod PowerUpLaws
-pub mod ReplyLaws
-pub mod SendingLaws
-pub mod SoundFacts
-pub mod SoundLaws
-pub mod SourceLoops
-pub mod TickLaws
 pub mod WholeLaws
-pub mod WriteLaws
+pub mod CallLaws

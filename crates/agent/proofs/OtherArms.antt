@@ -16,12 +16,7 @@ use Rattle.frames.proofs.reading.Read as read-type
 use Rattle.rules.specs.FrameCall.{onRead, onVerdict}
 use Rattle.rules.specs.Marks.{lineMarked}
 use Rattle.rules.specs.Replies.{does}
-use Rattle.rules.specs.State.{storeAll}
-use Rattle.rules.specs.Writes.{written}
 use Rattle.rules.specs.declared.Agent.{Agent}
-use Rattle.rules.specs.declared.Span.{Span}
-use Rattle.rules.specs.declared.Span.the-variants.{Release, CycleTime, Limits, Counters, Config, Outputs, Outside}
-use Rattle.rules.proofs.Span as span-type
 
 -- 1 to 4 are the line's
 pub line-refused : (port : ℕ) (a : Agent) (b : Body) (v : Verdict) → OneOf (1 ∷ 2 ∷ 3 ∷ 4 ∷ []) (tagOf verdict-type.the-type v)
@@ -40,14 +35,3 @@ read-refused port a s read.Form k = refl
 read-refused port a s read.Check k = refl
 read-refused port a s (read.Taken f) k = absurd (miss (2 ∷ 3 ∷ []) 0 tt k)
 read-refused port a s read.Kind k = absurd (miss (2 ∷ 3 ∷ []) 1 tt k)
-
--- these spans are stored and nothing else
-pub stored-span : (a : Agent) (add : ℕ) (xs : List ℕ) (s : Span) → OneOf (1 ∷ 2 ∷ 3 ∷ 4 ∷ []) (tagOf span-type.the-type s)
-    → storeAll add xs a ≡ written s a add xs
-stored-span a add xs CycleTime k = refl
-stored-span a add xs Limits k = refl
-stored-span a add xs Counters k = refl
-stored-span a add xs Config k = refl
-stored-span a add xs Release k = absurd (miss (1 ∷ 2 ∷ 3 ∷ 4 ∷ []) 0 tt k)
-stored-span a add xs Outputs k = absurd (miss (1 ∷ 2 ∷ 3 ∷ 4 ∷ []) 5 tt k)
-stored-span a add xs Outside k = absurd (miss (1 ∷ 2 ∷ 3 ∷ 4 ∷ []) 6 tt k)

@@ -1,4 +1,1 @@
-pub mod Fitting
-pub mod Asks
 pub mod Whole
-pub mod Handling

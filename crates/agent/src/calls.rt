@@ -1,16 +1,17 @@
 // The calls, with the host's numbers first: 19, 20, 21.
 ghost use lib.ListN.{length};
 ghost use Rattle.rules.specs.Calls.{tickCall, inputCall, frameCall, Answers, AnswersFrame};
-use crate::answers::ACCEPTED;
-use crate::answers::HOST_INPUT;
-use crate::answers::REPLY_ROOM;
-use crate::answers::UNSOUND;
 use crate::frame_call::on_frame;
-use crate::inputs::with_inputs;
-use crate::registers::IMAGE;
-use crate::sending::send;
-use crate::sending::unsent;
-use crate::sound::sound;
+use agent_events::inputs::with_inputs;
+use agent_replies::sending::Handled;
+use agent_replies::sending::send;
+use agent_replies::sending::unsent;
+use agent_state::answers::ACCEPTED;
+use agent_state::answers::HOST_INPUT;
+use agent_state::answers::REPLY_ROOM;
+use agent_state::answers::UNSOUND;
+use agent_state::registers::IMAGE;
+use agent_state::sound::sound;
 use rules::Agent;
 
 // The answer, and the agent afterwards.
@@ -23,7 +24,7 @@ pub fn tick(a: Agent) -> Told
     ensures { λ r. ⌜ Answers (tickCall a) (r .answer) (r .agent) ⌝ }
 {
     if sound(a) {
-        let next = crate::tick::tick(a);
+        let next = agent_events::tick::tick(a);
         return Told {
             answer: ACCEPTED,
             agent: next,
@@ -59,13 +60,6 @@ pub fn inputs(a: Agent, xs: &[u8]) -> Told
 
 // The reply buffer has at least so many bytes.
 const LEAST_ROOM: usize = 545;
-
-// The answer, the agent afterwards, and how many bytes stand in the reply buffer to be sent.
-pub struct Handled {
-    pub answer: u8,
-    pub agent: Agent,
-    pub sent: u16,
-}
 
 // A body that came on a port, with a buffer for a reply, whose bytes past what is sent keep their value.
 pub fn frame(a: Agent, port: u8, body: &[u8], reply: &mut [u8]) -> Handled

@@ -6,8 +6,8 @@ ghost use Rattle.rules.specs.Calls.{tick as Calls·tick, input as Calls·input,
 ghost use Rattle.rules.specs.PowerUp.{powerUp};
 ghost use Rattle.demand3.specs.History.{powerOn};
 ghost use Rattle.demand3.specs.Reached.{Reached, Continues};
-use agent::calls::Handled;
 use agent::calls::Told;
+use agent_replies::sending::Handled;
 use rules::Agent;
 
 // Power-up: the empty history ends in this agent.

@@ -9,7 +9,7 @@ use Rattle.base.proofs.Fills.{left-turn, left-end}
 use Rattle.rules.specs.Calls.{tickCall, leftIn}
 use Rattle.rules.specs.Replies.{Outcome, outcome}
 use Rattle.rules.specs.declared.Agent.{Agent}
-use Rattle.agent.specs.declared.calls.Handled.{Handled}
+use Rattle.agent_replies.specs.declared.sending.Handled.{Handled}
 use Rattle.script.specs.Doing.{ticked, told}
 
 -- ---- ticks

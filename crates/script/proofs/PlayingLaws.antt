@@ -7,7 +7,7 @@ use native.Mathlib.Omega.{arith}
 use lib.ListN.{length}
 use Rattle.text.proofs.PuttingLaws.{Put, put-whole}
 use Rattle.rules.specs.Replies.{Outcome}
-use Rattle.agent.specs.declared.calls.Handled.{Handled}
+use Rattle.agent_replies.specs.declared.sending.Handled.{Handled}
 use Rattle.script.specs.Forms.{stepIn, isBadForm}
 use Rattle.script.specs.Doing.{done, told}
 use Rattle.script.specs.Printing.{printed, Wrote}

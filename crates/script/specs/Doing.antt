@@ -6,7 +6,7 @@ use Rattle.rules.specs.Answers.{accepted}
 use Rattle.rules.specs.Calls.{leastRoom, tickCall, inputCall, frameCall}
 use Rattle.rules.specs.Replies.{Outcome, outcome}
 use Rattle.rules.specs.declared.Agent.{Agent}
-use Rattle.agent.specs.declared.calls.Handled.{Handled}
+use Rattle.agent_replies.specs.declared.sending.Handled.{Handled}
 use Rattle.script.specs.Forms.{Step, ticks, frame, inputs, bad}
 
 -- n ticks

@@ -8,9 +8,9 @@ ghost use Rattle.script.specs.Forms.{stepIn};
 ghost use Rattle.script.specs.Doing.{ticked, done, told};
 use crate::forms::Form;
 use crate::forms::IMAGE;
-use agent::answers::ACCEPTED;
 use agent::calls;
-use agent::calls::Handled;
+use agent_replies::sending::Handled;
+use agent_state::answers::ACCEPTED;
 use rules::Agent;
 
 // A reply buffer of the least length that the frame call takes.

@@ -16,8 +16,8 @@ use crate::forms::read_line;
 use crate::printing::View;
 use crate::printing::no_text;
 use crate::printing::put_line;
-use agent::calls::Handled;
 use agent::power_up::power_up;
+use agent_replies::sending::Handled;
 use rules::Agent;
 use text::putting::put_text;
 

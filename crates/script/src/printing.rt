@@ -5,7 +5,7 @@ ghost use lib.ListN.{length, take, replicate};
 ghost use Rattle.text.specs.Putting.{putAt, placeAfter};
 ghost use Rattle.script.specs.Doing.{told};
 ghost use Rattle.script.specs.Printing.{headerOf, badText, answerText, modeText, stateText, replyText, traceText, viewText, fieldsText, printed, Wrote};
-use agent::calls::Handled;
+use agent_replies::sending::Handled;
 use rules::Agent;
 use text::decimal::put_decimal;
 use text::putting::put_byte;

@@ -45,15 +45,15 @@ use denote.Triple.Table.{entered, cited}
 use denote.Triple.Walked.{says, Stays, stay-ref, stay-none, stay-none-slice, gave-slice, walkOf, AllGo, goes-ref, goes-none, goes-none-slice, goes-gave-slice, Walks, ends-at, walked, walk-meets}
 use denote.Triple.Clauses.{ensured, lasts}
 use Rattle.rules.specs.declared.Agent.{Agent}
-use Rattle.agent.specs.declared.calls.Handled.{Handled}
+use Rattle.agent_replies.specs.declared.sending.Handled.{Handled}
 use Rattle.rules.specs.Calls.{Call, frame as Calls·frame, frameCall, AnswersFrame}
 use Rattle.rules.specs.Good.{BytesCall}
 use Rattle.demand3.proofs.ReachedLaws.{continues}
 use Rattle.rules.specs.Replies.{Outcome}
 use Rattle.rules.proofs.Agent as T
 use Rattle.rules.proofs.Agent.Laws as T′
-use Rattle.agent.proofs.calls.Handled as D
-use Rattle.agent.proofs.calls.Handled.Laws as D′
+use Rattle.agent_replies.proofs.sending.Handled as D
+use Rattle.agent_replies.proofs.sending.Handled.Laws as D′
 use Rattle.agent.proofs.calls.frame as by-value
 use Rattle.agent.proofs.calls.frame.Symbol as by-value-def
 use Rattle.agent.proofs.calls.frame.Symbol.{name as #agent·calls·frame}

@@ -5,7 +5,7 @@ use mir.Val.{Fits}
 use lib.ListN.{getD}
 use borrow.Author.Needs.{needs}
 use Rattle.agent.proofs.CallLaws.{tick-sound, tick-unsound}
-use Rattle.agent.proofs.SoundFacts.{elapsed-room, idle-room}
+use Rattle.agent_state.proofs.SoundFacts.{elapsed-room, idle-room}
 use Rattle.agent.proofs.calls.tick.Statement.{statement}
 use Rattle.agent.proofs.calls.tick.Tie as tie
 

@@ -1,0 +1,4 @@
+pub mod TickLaws
+pub mod StoredPast
+pub mod WriteLaws
+pub mod SpanArms

@@ -1,0 +1,93 @@
+// TID and SID assignment.
+ghost use mathlib.Core.Path.{_≡_};
+ghost use Prim.Native.Nat.{_^_, _<_};
+ghost use Rattle.rules.specs.Assignments.{assignable, onTid, onFirstSid, onLaterSid, onSid};
+ghost use Rattle.agent_replies.specs.Fitting.{Fitting};
+use agent_replies::replies::acknowledges;
+use agent_replies::replies::does;
+use agent_state::answers::ACCEPTED;
+use agent_state::answers::ADDRESSEE;
+use agent_state::answers::EIGHT_OTHERS;
+use agent_state::answers::NOT_ALLOWED;
+use agent_state::answers::SOURCE;
+use agent_state::registers::IID;
+use agent_state::registers::MAC;
+use agent_state::registers::SID;
+use agent_state::registers::TID;
+use agent_state::registers::number8;
+use agent_state::registers::put_low;
+use agent_state::sources::is_recorded;
+use agent_state::sources::recorded;
+use agent_state::sources::sid_of;
+use agent_state::state::NOBODY;
+use rules::Agent;
+use rules::Deed;
+
+// 01h to 8Eh but not 7Dh, 7Eh.
+fn assignable(tid: u8) -> bool
+    ensures { λ r. ⌜ r ≡ assignable tid ⌝ }
+{
+    ((0x01 <= tid) & (tid <= 0x8E)) & !((tid == 0x7D) | (tid == 0x7E))
+}
+
+// For the own IID; no reply.
+pub fn on_tid(a: Agent, iid: u64, tid: u8) -> Deed
+    ensures { λ r. ⌜ (r ≡ onTid a iid tid) × Fitting (r .reply) ⌝ }
+{
+    if iid != number8(&a.regs, IID) {
+        return does(ADDRESSEE, a);
+    }
+    if assignable(tid) {
+        let mut next = a;
+        next.regs[TID] = tid;
+        return does(ACCEPTED, next);
+    }
+    does(NOT_ALLOWED, a)
+}
+
+// The first is taken if SID and SRC differ from FFFFFFh.
+fn on_first_sid(a: Agent, src: u32, sec: u32, sid: u32) -> Deed
+    requires { ⌜ (src < 2 ^ 24) × (a .count ≡ 0) ⌝ }
+    ensures { λ r. ⌜ (r ≡ onFirstSid a src sec sid) × Fitting (r .reply) ⌝ }
+{
+    if sid == NOBODY {
+        return does(NOT_ALLOWED, a);
+    }
+    let mut next = a;
+    put_low(&mut next.regs, SID, 3, sid as u64);
+    acknowledges(recorded(src, next), src, sec)
+}
+
+// Later ones must repeat the SID, and record a new SRC; a known SRC is acknowledged again.
+fn on_later_sid(a: Agent, src: u32, sec: u32, sid: u32) -> Deed
+    requires { ⌜ src < 2 ^ 24 ⌝ }
+    ensures { λ r. ⌜ (r ≡ onLaterSid a src sec sid) × Fitting (r .reply) ⌝ }
+{
+    if sid != sid_of(a) {
+        return does(NOT_ALLOWED, a);
+    }
+    if is_recorded(a, src) {
+        return acknowledges(a, src, sec);
+    }
+    if 8 <= a.count {
+        return does(EIGHT_OTHERS, a);
+    }
+    acknowledges(recorded(src, a), src, sec)
+}
+
+// For the own MAC.
+pub fn on_sid(a: Agent, src: u32, sec: u32, mac: u64, sid: u32) -> Deed
+    requires { ⌜ src < 2 ^ 24 ⌝ }
+    ensures { λ r. ⌜ (r ≡ onSid a src sec mac sid) × Fitting (r .reply) ⌝ }
+{
+    if src == NOBODY {
+        return does(SOURCE, a);
+    }
+    if mac != number8(&a.regs, MAC) {
+        return does(ADDRESSEE, a);
+    }
+    if a.count == 0 {
+        return on_first_sid(a, src, sec, sid);
+    }
+    on_later_sid(a, src, sec, sid)
+}

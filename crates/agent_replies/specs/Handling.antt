@@ -1,0 +1,42 @@
+-- What a call hands back, held to what it does: answer, agent, how much was sent, and the reply buffer. Assumes nothing.
+use mathlib.Core.List.{List}
+use Prim.Native.Nat.{ℕ}
+use Rattle.frames.specs.declared.kinds.Frame.{Frame}
+use Rattle.frames.specs.declared.kinds.Frame.the-variants.{Sync, SafeRead, SafeWrite, PlainRead, PlainWrite, SafeResponse, PlainSyncResponse, PlainResponse, TidAssignment, SidAssignment, SidAssignment4, Acknowledgement, Invariants}
+use Rattle.rules.specs.Calls.{AnswersFrame}
+use Rattle.rules.specs.Replies.{Outcome}
+use Rattle.rules.specs.declared.Agent.{Agent}
+use Rattle.wire.specs.declared.laying.Laid.{Laid}
+use Rattle.wire.specs.declared.laying.Laid.the-variants.{Sent, Reserved, Form, Room}
+use Rattle.agent_replies.specs.declared.sending.Handled.{Handled}
+use Rattle.agent_replies.specs.declared.sending.Part.{Part}
+
+abbrev pub Handles : Outcome → Handled → List ℕ → List ℕ → Type 0
+Handles o r before after = AnswersFrame o (r .answer) (r .agent) (r .sent) before after
+
+-- nothing sent
+abbrev pub unsent : ℕ → Agent → Handled
+unsent n a = record { answer = n; agent = a; sent = 0 }
+
+-- how many bytes an answer of the writer says were laid down
+abbrev pub lengthIn : Laid → ℕ
+lengthIn (Sent n) = n
+lengthIn Reserved = 0
+lengthIn Form = 0
+lengthIn Room = 0
+
+-- the registers that a reply shows: from ADD on, DATL of them, with STAT at 19h
+abbrev pub partOf : Frame → Part
+partOf (SafeResponse dest src cyc seq cmd datl add stat) = record { add = add; datl = datl; stat = stat }
+partOf (Sync src cyc) = record { add = 0; datl = 0; stat = 0 }
+partOf (SafeRead dest src cyc seq datl add) = record { add = 0; datl = 0; stat = 0 }
+partOf (SafeWrite dest src cyc seq datl add) = record { add = 0; datl = 0; stat = 0 }
+partOf (PlainRead src datl add) = record { add = 0; datl = 0; stat = 0 }
+partOf (PlainWrite src datl add) = record { add = 0; datl = 0; stat = 0 }
+partOf (PlainSyncResponse src datl add stat) = record { add = 0; datl = 0; stat = 0 }
+partOf (PlainResponse src cmd datl add) = record { add = 0; datl = 0; stat = 0 }
+partOf (TidAssignment src iid tid) = record { add = 0; datl = 0; stat = 0 }
+partOf (SidAssignment src sec mac sid) = record { add = 0; datl = 0; stat = 0 }
+partOf (SidAssignment4 src sec mac sid sid2 src2) = record { add = 0; datl = 0; stat = 0 }
+partOf (Acknowledgement src dst sec mac) = record { add = 0; datl = 0; stat = 0 }
+partOf (Invariants dest src cyc seq config logic) = record { add = 0; datl = 0; stat = 0 }

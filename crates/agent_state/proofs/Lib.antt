@@ -1,0 +1,4 @@
+pub mod LowNumbers
+pub mod SourceLoops
+pub mod SoundFacts
+pub mod SoundLaws

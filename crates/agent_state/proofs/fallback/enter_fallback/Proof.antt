@@ -1,0 +1,26 @@
+-- `fallback::enter_fallback` meets its contract. Assumes nothing.
+use Rattle.rules.specs.Fallback.{enterFallback}
+use borrow.Author.Needs.{needs}
+use Rattle.agent_state.proofs.fallback.enter_fallback.Statement.{statement}
+use Rattle.agent_state.proofs.fallback.enter_fallback.Tie as tie
+
+element-copy-out-next : tie.Need-element-copy-out-next
+element-copy-out-next c = search needs
+
+element-write-next : tie.Need-element-write-next
+element-write-next c = search needs
+
+element-write-next-2 : tie.Need-element-write-next-2
+element-write-next-2 c = search needs
+
+fill-requires : tie.Need-fill-requires
+fill-requires c κs = search needs
+
+returns : tie.Need-returns
+unfolding enterFallback
+returns c = rw (c .fill .ensures)
+
+pub enter-fallback-spec : {M : Type 1} → statement M
+enter-fallback-spec =
+    tie.close
+    (tie.spec element-copy-out-next element-write-next element-write-next-2 fill-requires returns)

@@ -1,0 +1,31 @@
+-- `sound::settings_sound` meets its contract. Assumes nothing.
+use mathlib.Core.Path.{refl}
+use Rattle.rules.specs.Sound.{settingsSound}
+use borrow.Author.Needs.{needs}
+use Rattle.agent_state.proofs.sound.settings_sound.Statement.{statement}
+use Rattle.agent_state.proofs.sound.settings_sound.Tie as tie
+
+element-copy-out-release : tie.Need-element-copy-out-release
+element-copy-out-release c = search needs
+
+element-copy-out-tid : tie.Need-element-copy-out-tid
+element-copy-out-tid c = search needs
+
+element-copy-out-result : tie.Need-element-copy-out-result
+element-copy-out-result c = search needs
+
+element-copy-out-result-2 : tie.Need-element-copy-out-result-2
+element-copy-out-result-2 c = search needs
+
+element-copy-out-result-3 : tie.Need-element-copy-out-result-3
+element-copy-out-result-3 c = search needs
+
+element-copy-out-result-4 : tie.Need-element-copy-out-result-4
+element-copy-out-result-4 c = search needs
+
+returns : tie.Need-returns
+unfolding settingsSound
+returns c = refl
+
+pub settings-sound-spec : {M : Type 1} → statement M
+settings-sound-spec = tie.close (tie.spec element-copy-out-release element-copy-out-tid element-copy-out-result element-copy-out-result-2 element-copy-out-result-3 element-copy-out-result-4 returns)
