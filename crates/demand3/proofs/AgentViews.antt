@@ -18,11 +18,11 @@ use Rattle.rules.specs.Sources.{recorded}
 use Rattle.rules.specs.State.{reg, tOf, nOf, mOf, withIdle, store, storeAll}
 use Rattle.rules.specs.declared.Agent.{Agent}
 use Rattle.rules.proofs.MarkSteps.{Marks, none, counts}
-use Rattle.demand3.proofs.Effects.{fallen, runs, limits, releases, outputs, named}
+use Rattle.demand3.proofs.Effects.{commanded, fallen, runs, limits, releases, outputs, named}
 use Rattle.demand3.proofs.LowNumbers.{low-number-same, low-number-stored}
 use Rattle.demand3.proofs.RegisterViews.{Apart, apart-same, apart-status, apart-middle}
 use Rattle.demand3.proofs.StoredPlaces.{stored-outside, stored-choice}
-use Rattle.demand3.proofs.Views.{Registers, Clocks, View, registersOf, viewOf, SameRegisters, Agree}
+use Rattle.demand3.proofs.Views.{Registers, View, registersOf, viewOf, SameRegisters, Agree}
 
 -- ---- what agrees
 
@@ -104,7 +104,7 @@ fallen-agree e = record {
   assigned = e .assigned;
   registers = record { rep = refl; t = e .registers .t; n = e .registers .n; m = e .registers .m; out = λ i h. refl; sid = e .registers .sid };
   cycle = e .cycle;
-  clocks = ap (λ (x : Clocks). record { s = x .s; q = 0 }) (e .clocks);
+  clocks = ap commanded (e .clocks);
 }
 
 pub fallen-view : (a : Agent) (v : View) → length (a .regs) ≡ 256 → Agree (viewOf a) v → Agree (viewOf (enterFallback a)) (fallen v)

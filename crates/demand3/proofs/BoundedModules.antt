@@ -17,7 +17,7 @@ use Rattle.demand3.specs.Events.{Event, aTick, aSync, aRequest, aRefused
 use Rattle.demand3.specs.History.{History, powerOn, _▸_, Entry, Seen}
 use Rattle.demand3.specs.Numbers.{inRun, inFallback, unsound}
 use Rattle.demand3.specs.Words.{silenceAfter, silence, EntersRun, TickAtSyncLimit, Released, ordered, still}
-use Rattle.demand3.proofs.Device.{Device, entryOf, HistoryOf, of-each}
+use Rattle.demand3.proofs.Device.{Device, moveEntry, HistoryOf, of-each}
 
 -- what matters of a module here: what is seen, OUT_REP, and s
 pub record Watchdog : Type 0 where
@@ -122,7 +122,7 @@ asks-quietly r e = subst Quiet (sym e) tt
 
 module _ (h : History) (v w : Watchdog) (l : Link h v) (call : Call) (n : ℕ) (ev : Event) where
   abbrev this : Entry
-  this = entryOf boundedModule v call n ev w
+  this = moveEntry boundedModule v call n ev w
 
   -- the mode stays: RUN is not entered, and a release that is pending is pending still
   module _ (no-limit : TickAtSyncLimit h this → ⊥) where

@@ -15,23 +15,23 @@ pub record Device : Type 1 where
   pub Moves : State → Call → ℕ → Event → State → Type 0
 
 module _ (D : Device) where
-  abbrev pub entryOf : D .State → Call → ℕ → Event → D .State → Entry
-  entryOf s call n ev z = record { call = call; answer = n; event = ev; before = D .seen s; after = D .seen z }
+  abbrev pub moveEntry : D .State → Call → ℕ → Event → D .State → Entry
+  moveEntry s call n ev z = record { call = call; answer = n; event = ev; before = D .seen s; after = D .seen z }
 
   -- a history of the device, and the state after it
   pub data HistoryOf : History → D .State → Type 0 where
     start : {s : D .State} → D .Starts s → HistoryOf powerOn s
-    step : {h : History} {s z : D .State} (call : Call) (n : ℕ) (ev : Event) → D .Moves s call n ev z → HistoryOf h s → HistoryOf (h ▸ entryOf s call n ev z) z
+    step : {h : History} {s z : D .State} (call : Call) (n : ℕ) (ev : Event) → D .Moves s call n ev z → HistoryOf h s → HistoryOf (h ▸ moveEntry s call n ev z) z
 
   module _ (I : History → D .State → Type 0)
       (starts : (s : D .State) → D .Starts s → I powerOn s)
-      (keeps : (h : History) (s z : D .State) (call : Call) (n : ℕ) (ev : Event) → D .Moves s call n ev z → I h s → I (h ▸ entryOf s call n ev z) z) where
+      (keeps : (h : History) (s z : D .State) (call : Call) (n : ℕ) (ev : Event) → D .Moves s call n ev z → I h s → I (h ▸ moveEntry s call n ev z) z) where
     pub after-all : {h : History} {s : D .State} → HistoryOf h s → I h s
     after-all (start {s = s} b) = starts s b
     after-all (step {h = h} {s = s} {z = z} call n ev m r) = keeps h s z call n ev m (after-all r)
 
     module _ (P : History → Entry → Type 0)
-        (gives : (h : History) (s z : D .State) (call : Call) (n : ℕ) (ev : Event) → D .Moves s call n ev z → I h s → P h (entryOf s call n ev z)) where
+        (gives : (h : History) (s z : D .State) (call : Call) (n : ℕ) (ev : Event) → D .Moves s call n ev z → I h s → P h (moveEntry s call n ev z)) where
       pub of-each : {h : History} {s : D .State} → HistoryOf h s → Everywhere P h
       of-each (start b) past e c = elim c [ ]
       of-each (step {h = h} {s = s} {z = z} call n ev m r) _ _ now = gives h s z call n ev m (after-all r)

@@ -49,8 +49,16 @@ stored add xs r = record {
 }
 
 -- q from 0 on
-abbrev commanded : Clocks → Clocks
+abbrev pub commanded : Clocks → Clocks
 commanded x = record { s = x .s; q = 0 }
+
+-- no request yet, and the sync of this cycle not heard
+abbrev pub nextOne : Cycle → Cycle
+nextOne y = record { last = y .last; heard = unheard; c = (y .c + 1) % 256; k = 0 }
+
+-- one request more
+abbrev takenOne : Cycle → Cycle
+takenOne y = record { last = y .last; heard = y .heard; c = y .c; k = y .k + 1 }
 
 -- one tick, in that mode
 abbrev counted : ℕ → Clocks → Clocks
@@ -73,7 +81,7 @@ abbrev pub countedOn : View → View
 countedOn v = withClocks (counted (v .mode) (v .clocks)) v
 
 abbrev pub nextCycle : View → View
-nextCycle v = withCycle (record { last = v .cycle .last; heard = unheard; c = (v .cycle .c + 1) % 256; k = 0 }) v
+nextCycle v = withCycle (nextOne (v .cycle)) v
 
 abbrev pub hears : ℕ → ℕ → View → View
 hears src cyc v = withCycle (record { last = src; heard = isHeard; c = cyc; k = 0 }) (withClocks (record { s = 0; q = v .clocks .q }) v)
@@ -82,7 +90,7 @@ abbrev pub runs : View → View
 runs v = record { mode = inRun; assigned = v .assigned; registers = v .registers; cycle = v .cycle; clocks = commanded (v .clocks) }
 
 abbrev pub takes : View → View
-takes v = withCycle (record { last = v .cycle .last; heard = v .cycle .heard; c = v .cycle .c; k = v .cycle .k + 1 }) v
+takes v = withCycle (takenOne (v .cycle)) v
 
 abbrev pub limits : ℕ → ℕ → ℕ → View → View
 limits t n m v = withRegisters (withLimits t n m (v .registers)) v

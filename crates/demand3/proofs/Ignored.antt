@@ -9,7 +9,7 @@ use Rattle.demand3.specs.History.{Entry}
 use Rattle.demand3.specs.Sharper.{Brings, Unchanged}
 use Rattle.demand3.specs.Words.{event}
 use Rattle.demand3.proofs.Effects.{Did, fellAtTick, fellAtTickAndEnd, tickedOn, tickedOnAndEnd, kept, lost, heardOnly, enteredRun, takenOnly, asked, configured, releasedBy, withdrawn, output, namedFirst, acknowledged}
-use Rattle.demand3.proofs.Link.{entryOf}
+use Rattle.demand3.proofs.Link.{viewEntry}
 use Rattle.demand3.proofs.Views.{View, Agree}
 
 -- a call that brings a request means that request, or nothing
@@ -30,7 +30,7 @@ module _ (v u : View) (call : Call) (n : ℕ) (means : Event) (src seq : ℕ) (b
   accepted-so r e = let x = subst (MeansAsked src seq) e m in not-so r (x .0) (x .1) e
 
   -- the view as it was, but for k
-  pub unchanged-by : {w : View} {ok : Bool} → Did v call ok means w → Agree u w → Unchanged (entryOf v call n means u)
+  pub unchanged-by : {w : View} {ok : Bool} → Did v call ok means w → Agree u w → Unchanged (viewEntry v call n means u)
   unchanged-by (fellAtTick e) a = absurd (subst (MeansAsked src seq) e m)
   unchanged-by (fellAtTickAndEnd e) a = absurd (subst (MeansAsked src seq) e m)
   unchanged-by (tickedOn e below) a = absurd (subst (MeansAsked src seq) e m)

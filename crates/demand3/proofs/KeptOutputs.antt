@@ -18,7 +18,7 @@ use Rattle.demand3.specs.History.{History}
 use Rattle.demand3.specs.Numbers.{isAccepted}
 use Rattle.demand3.proofs.Effects.{Due, LaidWrite, takes, outputs}
 use Rattle.demand3.proofs.KeptRequests.{is-fresh, all-differ, numbered, takes-accepted}
-use Rattle.demand3.proofs.Link.{Linked, Kept, entryOf, not-both, no-tick}
+use Rattle.demand3.proofs.Link.{Linked, Kept, viewEntry, not-both, no-tick}
 use Rattle.demand3.proofs.Views.{View, Facts}
 
 -- register j after the bytes xs are written from add on
@@ -38,7 +38,7 @@ module _ (h : History) (v : View) (f : Facts v) (l : Linked h v) (r : Request) (
   not-tick : means ≡ aTick → ⊥
   not-tick = no-tick (aRequest r) tt ev
 
-  is-written : isAccepted n ≡ true → LaidWrite call r add xs → Written h (entryOf v call n means (outputs add xs (takes v)))
+  is-written : isAccepted n ≡ true → LaidWrite call r add xs → Written h (viewEntry v call n means (outputs add xs (takes v)))
   is-written zero laid =
       let fresh = is-fresh h v f l r due in
       record {

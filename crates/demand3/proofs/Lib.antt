@@ -35,3 +35,4 @@ pub mod Refuses
 pub mod RefusesWrites
 pub mod RefusesData
 pub mod ReachedLaws
+pub mod Meant

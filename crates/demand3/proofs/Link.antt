@@ -20,11 +20,11 @@ use Rattle.demand3.proofs.Numbering.{Numbering}
 use Rattle.demand3.proofs.Views.{View, Facts}
 
 -- what may be seen of a view, and a call as the history has it
-abbrev pub seenOf : View → Seen
-seenOf v = record { mode = v .mode; out = v .registers .out; t = v .registers .t; n = v .registers .n; m = v .registers .m }
+abbrev pub viewSeen : View → Seen
+viewSeen v = record { mode = v .mode; out = v .registers .out; t = v .registers .t; n = v .registers .n; m = v .registers .m }
 
-abbrev pub entryOf : View → Call → ℕ → Event → View → Entry
-entryOf v call n ev w = record { call = call; answer = n; event = ev; before = seenOf v; after = seenOf w }
+abbrev pub viewEntry : View → Call → ℕ → Event → View → Entry
+viewEntry v call n ev w = record { call = call; answer = n; event = ev; before = viewSeen v; after = viewSeen w }
 
 -- the own SID, once there is one
 pub record Naming (assigned : Bool) (sid : ℕ) (I : Option ℕ) : Type 0 where
@@ -49,9 +49,9 @@ pub record Fine (h : History) (e : Entry) : Type 0 where
 
 -- a call is fine, a request that it takes is fresh, and the link is kept
 pub record Kept (h : History) (v : View) (call : Call) (n : ℕ) (means : Event) (w : View) : Type 0 where
-  pub fine : Fine h (entryOf v call n means w)
-  pub fresh : (r : Request) → Takes (entryOf v call n means w) r → Fresh h r
-  pub link : Linked (h ▸ entryOf v call n means w) w
+  pub fine : Fine h (viewEntry v call n means w)
+  pub fresh : (r : Request) → Takes (viewEntry v call n means w) r → Fresh h r
+  pub link : Linked (h ▸ viewEntry v call n means w) w
 
 -- ---- modes and events
 
@@ -93,7 +93,7 @@ takes-none w n p r (refuses q) = absurd (subst NoRequest (sym p ∙ q) n)
 
 module _ (h : History) (v : View) (f : Facts v) (call : Call) (n : ℕ) (ev : Event) (w : View) where
   -- the module ends in fallback, outputs zero
-  pub fine-safe : Safe (seenOf w) → AllDiffer (taken (h ▸ entryOf v call n ev w)) → Fine h (entryOf v call n ev w)
+  pub fine-safe : Safe (viewSeen w) → AllDiffer (taken (h ▸ viewEntry v call n ev w)) → Fine h (viewEntry v call n ev w)
   fine-safe safe differ =
       record {
         outputs = by-mode v f
@@ -106,7 +106,7 @@ module _ (h : History) (v : View) (f : Facts v) (call : Call) (n : ℕ) (ev : Ev
 
   -- no tick; mode and outputs stay
   pub fine-unchanged : w .mode ≡ v .mode → ((i : ℕ) → i < image → w .registers .out i ≡ v .registers .out i) → (ev ≡ aTick → ⊥)
-      → AllDiffer (taken (h ▸ entryOf v call n ev w)) → Fine h (entryOf v call n ev w)
+      → AllDiffer (taken (h ▸ viewEntry v call n ev w)) → Fine h (viewEntry v call n ev w)
   fine-unchanged mode outs not-tick differ =
       record {
         outputs = same outs;

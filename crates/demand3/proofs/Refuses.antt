@@ -9,18 +9,15 @@ use Rattle.rules.specs.Calls.{Call, tick}
 use Rattle.rules.specs.State.{inRun, inFallback}
 use Rattle.demand3.specs.Claim.{OutputsRight, same, fell, written, now, Holds}
 use Rattle.demand3.specs.Events.{aTick, aSync, aRequest, eventOf, Request}
-use Rattle.demand3.specs.History.{powerOn, _▸_, Seen, Entry}
+use Rattle.demand3.specs.History.{powerOn, _▸_, Seen, Entry, callEntry}
 use Rattle.demand3.specs.Words.{AllDiffer, Released, ordered, still}
 
 -- a module with t = n = m = 1 in a mode, each output at x
 abbrev pub shows : ℕ → ℕ → Seen
 shows mode x = record { mode = mode; out = λ i. x; t = 1; n = 1; m = 1 }
 
-abbrev pub called : Call → ℕ → Seen → Seen → Entry
-called call n x y = record { call = call; answer = n; event = eventOf call n; before = x; after = y }
-
 abbrev pub ticked : Seen → Seen → Entry
-ticked x y = called tick 0 x y
+ticked x y = callEntry tick 0 x y
 
 is-tick : eventOf tick 0 ≡ aTick
 unfolding eventOf
@@ -53,14 +50,14 @@ left-not-zero h = by (h .outputs _ _ now)
     by (written w) = let c = w .called in let z : _≡_ {A = ℕ} 0 1 = cc in omega arith
 
 -- a call takes the module into fallback and keeps the outputs
-pub left-unchanged : (call : Call) → Holds (powerOn ▸ called call 0 (shows inRun 7) (shows inFallback 7)) → ⊥
+pub left-unchanged : (call : Call) → Holds (powerOn ▸ callEntry call 0 (shows inRun 7) (shows inFallback 7)) → ⊥
 left-unchanged call h = omega (arith, h .leaving-run _ _ now record { from = refl; to = refl } .zero 0 (omega arith))
 
 -- ---- numbers
 
 -- a number is taken twice
 pub taken-twice : (c d : Call) (r q : Request) → eventOf c 0 ≡ aRequest r → eventOf d 0 ≡ aRequest q → r .seq ≡ q .seq
-    → Holds (powerOn ▸ called c 0 (shows inRun 0) (shows inRun 0) ▸ called d 0 (shows inRun 0) (shows inRun 0)) → ⊥
+    → Holds (powerOn ▸ callEntry c 0 (shows inRun 0) (shows inRun 0) ▸ callEntry d 0 (shows inRun 0) (shows inRun 0)) → ⊥
 taken-twice c d r q e f s h =
     let all : AllDiffer (q .seq ∷ r .seq ∷ []) = rw (f, e) at (h .numbers _ _ now) in
     all .0 .0 (sym s)
@@ -93,26 +90,26 @@ run-by-tick h = let e = h .bounded .entry-to-run _ _ now record { from = refl; t
 no-release : Released powerOn → ⊥
 no-release r = elim r [ ]
 
-pub run-without-release : (call : Call) → Holds (powerOn ▸ called call 0 (shows inFallback 0) (shows inRun 0)) → ⊥
+pub run-without-release : (call : Call) → Holds (powerOn ▸ callEntry call 0 (shows inFallback 0) (shows inRun 0)) → ⊥
 run-without-release call h = no-release (h .bounded .entry-to-run _ _ now record { from = refl; to = refl } .released)
 
 -- with a tick at the sync limit behind the release
 pub release-before-limit : (order sync : Call)
-    → Holds (powerOn ▸ called order 0 (shows inFallback 0) (shows inFallback 0) ▸ ticked (shows inFallback 0) (shows inFallback 0)
-    ▸ called sync 0 (shows inFallback 0) (shows inRun 0)) → ⊥
+    → Holds (powerOn ▸ callEntry order 0 (shows inFallback 0) (shows inFallback 0) ▸ ticked (shows inFallback 0) (shows inFallback 0)
+    ▸ callEntry sync 0 (shows inFallback 0) (shows inRun 0)) → ⊥
 release-before-limit order sync h = by (h .bounded .entry-to-run _ _ now record { from = refl; to = refl } .released)
   where
-    by : Released (powerOn ▸ called order 0 (shows inFallback 0) (shows inFallback 0) ▸ ticked (shows inFallback 0) (shows inFallback 0)) → ⊥
+    by : Released (powerOn ▸ callEntry order 0 (shows inFallback 0) (shows inFallback 0) ▸ ticked (shows inFallback 0) (shows inFallback 0)) → ⊥
     by (ordered r e o) = tick-no-request r e
     by (still r f g) = g record { tick = is-tick; limit = rw is-tick (omega arith) }
 
 -- with RUN left behind the release
 pub release-before-leaving : (order sync : Call)
-    → Holds (powerOn ▸ called order 0 (slow inRun 0) (slow inRun 0) ▸ ticked (slow inRun 0) (slow inFallback 0)
-    ▸ called sync 0 (slow inFallback 0) (slow inRun 0)) → ⊥
+    → Holds (powerOn ▸ callEntry order 0 (slow inRun 0) (slow inRun 0) ▸ ticked (slow inRun 0) (slow inFallback 0)
+    ▸ callEntry sync 0 (slow inFallback 0) (slow inRun 0)) → ⊥
 release-before-leaving order sync h = by (h .bounded .entry-to-run _ _ now record { from = refl; to = refl } .released)
   where
-    by : Released (powerOn ▸ called order 0 (slow inRun 0) (slow inRun 0) ▸ ticked (slow inRun 0) (slow inFallback 0)) → ⊥
+    by : Released (powerOn ▸ callEntry order 0 (slow inRun 0) (slow inRun 0) ▸ ticked (slow inRun 0) (slow inFallback 0)) → ⊥
     by (ordered r e o) = tick-no-request r e
     by (still r f g) = f record { from = refl; to = refl }
 
@@ -123,5 +120,5 @@ pub third-mode : Holds (powerOn ▸ ticked (shows inRun 0) (shows 2 0)) → ⊥
 third-mode h = omega (arith, h .bounded .two-modes _ _ now (λ p. omega arith))
 
 -- an answer of 19
-pub answered-19 : (call : Call) → Holds (powerOn ▸ called call unsound (shows inFallback 0) (shows inFallback 0)) → ⊥
+pub answered-19 : (call : Call) → Holds (powerOn ▸ callEntry call unsound (shows inFallback 0) (shows inFallback 0)) → ⊥
 answered-19 call h = h .bounded .no-19 _ _ now refl

@@ -23,9 +23,9 @@ use Rattle.rules.specs.Calls.{frame}
 use Rattle.rules.specs.Registers.{outputsAt, image}
 use Rattle.rules.specs.State.{inRun}
 use Rattle.demand3.specs.Claim.{Written, Holds}
-use Rattle.demand3.specs.History.{History, _▸_, Entry}
+use Rattle.demand3.specs.History.{History, _▸_, Entry, callEntry}
 use Rattle.demand3.specs.Sharper.{Among, here, there}
-use Rattle.demand3.proofs.Refuses.{shows, called}
+use Rattle.demand3.proofs.Refuses.{shows}
 use Rattle.demand3.proofs.RefusesWrites.{must-write, same-body}
 
 -- ---- data bytes stand in the body
@@ -94,7 +94,7 @@ at-most a b more = pick (leb a b) refl
 
 module _ (past : History) (port : ℕ) (body : List ℕ) (room : ℕ) where
   abbrev pub all-on : Entry
-  all-on = called (frame port body room) accepted (shows inRun 0) (shows inRun 7)
+  all-on = callEntry (frame port body room) accepted (shows inRun 0) (shows inRun 7)
 
   module _ (w : Written past all-on) where
     body-is : body ≡ bodyOf (w .address) (appOf (SafeWrite (w .dest) (w .src) (w .cyc) (w .seq) (w .datl) (w .add)) (w .xs))

@@ -6,11 +6,11 @@ use Rattle.demand3.specs.Events.{Event, aRequest, aRefusedWrite, anAssig
 use Rattle.demand3.proofs.BoundedModules.{Watchdog, Quiet, MayDo}
 use Rattle.demand3.proofs.BoundedModules as moves
 use Rattle.demand3.proofs.Effects.{Did, fellAtTick, fellAtTickAndEnd, tickedOn, tickedOnAndEnd, kept, lost, heardOnly, enteredRun, takenOnly, asked, configured, releasedBy, withdrawn, output, namedFirst, acknowledged}
-use Rattle.demand3.proofs.Link.{seenOf}
+use Rattle.demand3.proofs.Link.{viewSeen}
 use Rattle.demand3.proofs.Views.{Clocks, View, Agree, Facts}
 
 abbrev pub watchdogOf : View → Watchdog
-watchdogOf v = record { seen = seenOf v; rep = v .registers .rep; s = v .clocks .s }
+watchdogOf v = record { seen = viewSeen v; rep = v .registers .rep; s = v .clocks .s }
 
 quiet : {ev : Event} (x : Event) → Quiet x → ev ≡ x → Quiet ev
 quiet x q e = subst Quiet (sym e) q

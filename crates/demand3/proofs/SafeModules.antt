@@ -18,7 +18,7 @@ use Rattle.demand3.proofs.Device.{Device, HistoryOf, of-each, does-as}
 use Rattle.demand3.proofs.Effects.{Did}
 use Rattle.demand3.proofs.Ignored.{MeansAsked, Ignored, unchanged-by}
 use Rattle.demand3.proofs.KeptAll.{kept-by}
-use Rattle.demand3.proofs.Link.{Linked, Kept, Fine, seenOf, entryOf}
+use Rattle.demand3.proofs.Link.{Linked, Kept, Fine, viewSeen, viewEntry}
 use Rattle.demand3.proofs.Numbering.{when-unheard}
 use Rattle.demand3.proofs.SafeIsBounded.{watchdogOf, moved}
 use Rattle.demand3.proofs.Shown.{shows-kept}
@@ -44,7 +44,7 @@ pub record CallSafe (v : View) (call : Call) (n : ℕ) (means : Event) (u : View
 
 -- a safe module
 abbrev pub safeModule : Device
-safeModule = record { State = View; seen = seenOf; Starts = StartsSafe; Moves = CallSafe }
+safeModule = record { State = View; seen = viewSeen; Starts = StartsSafe; Moves = CallSafe }
 
 -- ---- bounded
 call-bounded : (v u : View) (call : Call) (n : ℕ) (means : Event) → CallSafe v call n means u → CallBounded (watchdogOf v) call n means (watchdogOf u)
@@ -70,7 +70,7 @@ pub record One (h : History) (e : Entry) : Type 0 where
   pub fresh : (r : Request) → Takes e r → Fresh h r
   pub ignored : Ignored e
 
-known : (h : History) (v u : View) (call : Call) (n : ℕ) (means : Event) → CallSafe v call n means u → Linked h v → One h (entryOf v call n means u)
+known : (h : History) (v u : View) (call : Call) (n : ℕ) (means : Event) → CallSafe v call n means u → Linked h v → One h (viewEntry v call n means u)
 known h v u call n means s l =
     let k = call-kept h v u call n means s l in
     record {

@@ -18,7 +18,7 @@ use Rattle.rules.specs.State as State
 use Rattle.rules.specs.Writes.{spanAt, spanEnd, spanOf}
 use Rattle.rules.specs.declared.Span.{Span}
 use Rattle.rules.specs.declared.Span.the-variants.{Release, CycleTime, Limits, Counters, Config, Outputs, Outside}
-use Rattle.demand3.specs.Numbers.{inRun, inFallback, tcyc, cnfRep, cnfCyc, outputsAt, lastOutput, image, accepted, outsideRules, unsound, isAccepted, isTaken, firstSeq, writesRelease, writesWithinOutputs}
+use Rattle.demand3.specs.Numbers.{inRun, inFallback, tcyc, cnfRep, cnfCyc, outputsAt, lastOutput, image, accepted, outsideRules, unsound, isAccepted, firstSeq, writesRelease, writesWithinOutputs}
 use Rattle.demand3.proofs.Spans.{InSpan, in-span}
 
 pub same-modes : (inRun ≡ State.inRun) × (inFallback ≡ State.inFallback)
@@ -30,8 +30,8 @@ same-registers = (refl, refl, refl, refl, refl)
 pub same-answers : (accepted ≡ Answers.accepted) × (outsideRules ≡ Answers.outsideRules) × (unsound ≡ Answers.unsound)
 same-answers = (refl, refl, refl)
 
-pub same-tests : (n : ℕ) → (isAccepted n ≡ Answers.isAccepted n) × (isTaken n ≡ Answers.isTaken n)
-same-tests n = (refl, refl)
+pub same-accepted : (n : ℕ) → isAccepted n ≡ Answers.isAccepted n
+same-accepted n = refl
 
 pub same-first-seq : (cyc : ℕ) → firstSeq cyc ≡ Requests.firstSeq cyc
 same-first-seq cyc = refl

@@ -1,5 +1,5 @@
--- The history of a list of calls from power-up: each call, its answer, and what may be seen of the agent before and
--- after: mode, outputs, t, n, m. The counters of the agent are not among it. Assumes nothing.
+-- The history of a list of calls from power-up: each call, its answer, what the two amount to, and what may be seen of the
+-- agent before and after: mode, outputs, t, n, m. The counters of the agent are not among it. Assumes nothing.
 use mathlib.Core.List.{List, [], _∷_}
 use Prim.Native.Nat.{ℕ, _+_}
 use lib.ListN.{getD}
@@ -21,7 +21,6 @@ pub record Seen : Type 0 where
 pub record Entry : Type 0 where
   pub call : Call
   pub answer : ℕ
-  -- what the two amount to
   pub event : Event
   pub before : Seen
   pub after : Seen
@@ -44,7 +43,7 @@ seenOf mode regs = record {
 abbrev pub seen : Agent → Seen
 seen a = seenOf (a .mode) (a .regs)
 
--- a call and its answer, with what was seen before and after. What a module takes them for is said here
+-- a call, its answer and what was seen before and after: the event is read off the call and the answer alone
 abbrev pub callEntry : Call → ℕ → Seen → Seen → Entry
 callEntry call answer before after = record { call = call; answer = answer; event = eventOf call answer; before = before; after = after }
 

@@ -1,6 +1,6 @@
 -- The numbers of the claim, written out from document 01 and not taken from the rules that it is claimed of.
 -- proofs/SameNumbers has each beside the rules' own. Assumes nothing.
-use mathlib.Core.Bool.{Bool, _&&_, _||_}
+use mathlib.Core.Bool.{Bool, _&&_}
 use mathlib.Core.List.{List}
 use Prim.Native.Nat.{ℕ, _+_, _-_, _%_}
 use lib.Dec.{eqb, leb}
@@ -43,12 +43,9 @@ outsideRules = 16
 abbrev pub unsound : ℕ
 unsound = 19
 
--- a call is accepted when it is answered 0; a safe request is taken when it is answered 0 or 16
+-- accepted: answered 0
 abbrev pub isAccepted : ℕ → Bool
 isAccepted n = eqb n accepted
-
-abbrev pub isTaken : ℕ → Bool
-isTaken n = isAccepted n || eqb n outsideRules
 
 -- the first SEQ: the complement of CYC plus one, modulo 256
 abbrev pub firstSeq : ℕ → ℕ
