@@ -2,7 +2,7 @@
 // past the end reads as 0, so every reading has a value.
 ghost use mathlib.Core.Path.{_≡_};
 ghost use Prim.Native.Nat.{_+_, _^_, _<_};
-ghost use lib.ListN.{getD};
+ghost use lib.ListN.{take, drop, getD};
 ghost use Rattle.base.specs.Bytes.{numberAt};
 ghost use Rattle.fields.specs.Fields.{width8};
 
@@ -40,6 +40,20 @@ fn number_at(s: &[u8], at: usize, width: usize) -> u64
     n
 }
 
+// So many bytes from a place on, or as many as there are.
+fn part_at(s: &[u8], at: usize, len: usize) -> &[u8]
+    ensures { λ r. ⌜ now r ≡ take len (drop at (now (s .entry))) ⌝ }
+{
+    if s.len() <= at {
+        return &s[..0];
+    }
+    if s.len() - at <= len {
+        return &s[at..];
+    }
+    let to = at + len;
+    &s[at..to]
+}
+
 // A reader at the start of the data.
 pub fn open<'a>(src: &'a [u8]) -> Reader<'a>
     ensures { λ r. ⌜ (r .src ≡ src .entry) × (r .at ≡ 0) ⌝ }
@@ -59,6 +73,13 @@ pub fn number<'a>(r: Reader<'a>, width: usize) -> u64
     ensures { λ n. ⌜ (n ≡ numberAt (now (r .entry .src)) (r .entry .at) (width8 width)) × (n < 256 ^ width8 width) ⌝ }
 {
     number_at(r.src, r.at, width)
+}
+
+// So many bytes at the reader's place, or as many as there are.
+pub fn part<'a>(r: Reader<'a>, len: usize) -> &'a [u8]
+    ensures { λ p. ⌜ now p ≡ take len (drop (r .entry .at) (now (r .entry .src))) ⌝ }
+{
+    part_at(r.src, r.at, len)
 }
 
 // A field by way of the reader: position and length as in the tables. All other callers use this.
@@ -97,4 +118,11 @@ pub fn id_field(s: &[u8], at: usize) -> u64
     ensures { λ r. ⌜ r ≡ numberAt (now (s .entry)) at 8 ⌝ }
 {
     field(s, at, 8)
+}
+
+// The data bytes of a frame by way of the reader: as many as there are, up to a length.
+pub fn data_field(s: &[u8], at: usize, len: usize) -> &[u8]
+    ensures { λ r. ⌜ now r ≡ take len (drop at (now (s .entry))) ⌝ }
+{
+    part(moved(open(s), at), len)
 }

@@ -3,6 +3,7 @@
 use mathlib.Core.Path.{_≡_, refl, sym, ap, _∙_, subst}
 use mathlib.Core.Bool.{true, false}
 use mathlib.Core.List.{List, [], _∷_, _++_}
+use mathlib.Core.Option.{some}
 use Prim.Native.Nat.{ℕ, _/_, _%_, _≤_}
 use native.Mathlib.Omega.{arith}
 use borrow.Author.Tests.{eqb-true}
@@ -19,10 +20,11 @@ use Rattle.wire.specs.declared.body.Body.{Body}
 use Rattle.wire.proofs.LineBytes.{unstuffed-bytes}
 use Rattle.wire.proofs.BodyBothWays.{takenBody, held-data, laid-then-read, Exact, read-then-laid}
 use Rattle.frames.specs.Kinds.{dataLen, dataIn, appOf}
-use Rattle.frames.specs.Reading.{readApp, receivedBody, readFrame}
+use Rattle.frames.specs.Reading.{readApp, receivedBody, readFrame, readingAnswer, answerToFrame}
 use Rattle.frames.specs.Writing.{fieldsFit, fits, frameLine, writtenOf}
 use Rattle.frames.specs.Sized.{Sized}
 use Rattle.frames.specs.declared.reading.Read.the-variants.{Taken}
+use Rattle.frames.specs.declared.reading.Reading.{Reading}
 use Rattle.frames.specs.declared.reading.Reading.the-variants as reading
 use Rattle.frames.specs.declared.reading.Received.{Received}
 use Rattle.frames.specs.declared.kinds.Frame.{Frame}
@@ -30,7 +32,7 @@ use Rattle.wire.specs.declared.laying.Laid.the-variants.{Sent}
 use Rattle.frames.proofs.Parts.{app-length}
 use Rattle.frames.proofs.Sizes.{in-body}
 use Rattle.frames.proofs.Sending.{between, between-line, sent, sent-says}
-use Rattle.frames.proofs.Receiving.{appIn, read-says, read-holds}
+use Rattle.frames.proofs.Receiving.{appIn, read-says, read-holds, passed-on}
 use Rattle.frames.proofs.BothWays.{written-then-read, read-then-written}
 
 -- the data bytes that came with a frame
@@ -67,6 +69,16 @@ laid-frame-read n a m f xs z e =
     let q = received a (appOf f xs) f (w .0) (r .0) (r .1) (t .0) in
     let b = between-line a (appOf f xs) in
     (w .2, ap (λ (s : List ℕ). readFrame s .reading) b ∙ q .0, ap (λ (s : List ℕ). dataOf f (readFrame s)) b ∙ q .1 ∙ t .1)
+
+-- answered 0, with the address, the frame and its data
+pub sent-then-answered : (n a m : ℕ) (f : Frame) (xs : List ℕ) → Sized f → writtenOf n a f xs ≡ Sent m
+    → answerToFrame (between (frameLine a f xs)) ≡ (0, some (a, f, xs))
+sent-then-answered n a m f xs z e =
+    let w = laid-frame-read n a m f xs z e in
+    let r : Received = readFrame (between (frameLine a f xs)) in
+    sym (passed-on (between (frameLine a f xs)))
+    ∙ ap (λ (x : Reading). readingAnswer x (take (r .len) (r .bytes))) (w .1)
+    ∙ ap (λ (ys : List ℕ). (0, some (a, f, ys))) (w .2)
 
 -- ---- received, then sent
 app-bytes : (a : ℕ) (ys s : List ℕ) → Bytes s → s ≡ bodyOf a ys → Bytes ys

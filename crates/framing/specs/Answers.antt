@@ -6,7 +6,7 @@ use Rattle.base.specs.Choice.{choose}
 use Rattle.base.specs.Bytes.{bytesOf}
 use Rattle.fields.specs.Fields.{width8}
 use Rattle.text.specs.Putting.{hexText}
-use Rattle.wire.specs.Laying.{bodyOf}
+use Rattle.wire.specs.Laying.{bodyOf, laidAnswer}
 use Rattle.wire.specs.declared.laying.Laid.{Laid}
 use Rattle.wire.specs.declared.laying.Laid.the-variants as laid
 use Rattle.frames.specs.Kinds.{appOf, dataLen, isSafe}
@@ -19,7 +19,7 @@ use Rattle.frame_fields.specs.Chars.{chars}
 use Rattle.frame_fields.specs.Table.{Field, kindWord, fieldsOf, hasData}
 use Rattle.frame_fields.specs.Numbers.{kindOf, numbersOf, frameOf, addressOf, datlOf}
 use Rattle.frame_fields.specs.Texts.{noText, put, puts}
-use Rattle.framing.specs.Said.{badText, refusedText}
+use Rattle.framing.specs.Said.{badText, refusal, refusedText, refusedReading}
 use Rattle.framing.specs.Outcome.{Outcome, build, explain, complain, outcomeOf}
 use Rattle.frame_fields.specs.declared.table.Kind as table
 use Rattle.frame_fields.specs.declared.texts.Text.{Text}
@@ -28,8 +28,8 @@ use Rattle.frame_fields.specs.declared.texts.Text.{Text}
 -- 600 bytes are room for any frame
 abbrev pub byLaid : Laid → List ℕ → Text
 byLaid (laid.Sent n) body = put noText (hexText body)
-byLaid laid.Reserved body = refusedText Reserved
-byLaid laid.Form body = refusedText Form
+byLaid laid.Reserved body = refusedText (laidAnswer laid.Reserved .0) (refusal Reserved)
+byLaid laid.Form body = refusedText (laidAnswer laid.Form .0) (refusal Form)
 byLaid laid.Room body = noText
 
 unfoldable pub frameBuilt : ℕ → Frame → List ℕ → Text
@@ -59,14 +59,14 @@ frameText a f bytes =
 -- or the reader's refusal
 abbrev pub byReading : Reading → List ℕ → Text
 byReading (Taken a f) bytes = frameText a f bytes
-byReading Length bytes = refusedText Length
-byReading Stuffing bytes = refusedText Stuffing
-byReading Size bytes = refusedText Size
-byReading Fcs bytes = refusedText Fcs
-byReading Reserved bytes = refusedText Reserved
-byReading Kind bytes = refusedText Kind
-byReading Form bytes = refusedText Form
-byReading Check bytes = refusedText Check
+byReading Length bytes = refusedReading Length
+byReading Stuffing bytes = refusedReading Stuffing
+byReading Size bytes = refusedReading Size
+byReading Fcs bytes = refusedReading Fcs
+byReading Reserved bytes = refusedReading Reserved
+byReading Kind bytes = refusedReading Kind
+byReading Form bytes = refusedReading Form
+byReading Check bytes = refusedReading Check
 
 unfoldable pub explainedText : List ℕ → Text
 explainedText body = byReading (readFrame body .reading) (readFrame body .bytes)

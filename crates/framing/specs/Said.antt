@@ -32,9 +32,13 @@ refusal Kind = chars "TYP not built"
 refusal Form = chars "length, COM or sync address wrong for the TYP"
 refusal Check = chars "safety CRC"
 
--- document 01's number, and its words
-abbrev pub refusedStart : Reading → Text
-refusedStart r = puts noText (chars "refused " ∷ decimalText (readingNumber r) ∷ chars ": " ∷ [])
+-- document 01's number of an answer, and its words
+abbrev pub refusedStart : ℕ → Text
+refusedStart n = puts noText (chars "refused " ∷ decimalText n ∷ chars ": " ∷ [])
 
-abbrev pub refusedText : Reading → Text
-refusedText r = puts (refusedStart r) (refusal r ∷ [])
+abbrev pub refusedText : ℕ → List ℕ → Text
+refusedText n words = puts (refusedStart n) (words ∷ [])
+
+-- of the reader of frames
+abbrev pub refusedReading : Reading → Text
+refusedReading r = refusedText (readingNumber r) (refusal r)

@@ -3,8 +3,9 @@ ghost use mathlib.Core.Path.{_≡_};
 ghost use mathlib.Core.List.{[], _∷_};
 ghost use Prim.Native.Nat.{_*_, _<_};
 ghost use lib.ListN.{getD};
+ghost use Rattle.frames.specs.Reading.{readingNumber};
 ghost use Rattle.frame_fields.specs.Words.{wordAt};
-ghost use Rattle.framing.specs.Said.{badStart, badText, wants, refusedStart, refusedText};
+ghost use Rattle.framing.specs.Said.{badStart, badText, wants, refusedStart, refusedReading};
 use frame_fields::table::Form;
 use frame_fields::texts;
 use frame_fields::texts::Text;
@@ -40,7 +41,7 @@ pub fn wants_digits(number: &[u8], form: Form, i: usize) -> Text
 
 // Document 01's number.
 fn refused_start(reading: Reading) -> Text
-    ensures { λ r. ⌜ r ≡ refusedStart reading ⌝ }
+    ensures { λ r. ⌜ r ≡ refusedStart (readingNumber reading) ⌝ }
 {
     let t = texts::add(texts::no_text(), b"refused ");
     let u = texts::add_count(t, reading_number(reading));
@@ -49,7 +50,7 @@ fn refused_start(reading: Reading) -> Text
 
 // And its words.
 pub fn refused(reading: Reading) -> Text
-    ensures { λ r. ⌜ r ≡ refusedText reading ⌝ }
+    ensures { λ r. ⌜ r ≡ refusedReading reading ⌝ }
 {
     let t = refused_start(reading);
     match reading {

@@ -17,7 +17,7 @@ use Rattle.base.proofs.ListEnds.{last-two}
 use Rattle.base.proofs.Bytes.{bytes-tail, bytes-behind}
 use Rattle.base.proofs.Ranges.{in-range}
 use Rattle.wire.specs.Stuffing.{stuff, unstuff, plainOf}
-use Rattle.wire.specs.Body.{reservedAddr, fcsOf, verdictNumber, refusedBody, checkedBody, unstuffedBody, readBody}
+use Rattle.wire.specs.Body.{reservedAddr, fcsOf, verdictNumber, bodyAnswer, refusedBody, checkedBody, unstuffedBody, readBody, answerToBody}
 use Rattle.wire.specs.Laying.{bodyWith, bodyOf}
 use Rattle.wire.specs.declared.body.Verdict.{Verdict}
 use Rattle.wire.specs.declared.body.Verdict.the-variants.{Taken, Length, Stuffing, Size, Check, Reserved}
@@ -80,6 +80,12 @@ module _ (a : ℕ) (xs : List ℕ) (r : reservedAddr a ≡ false) (least : 4 ≤
   pub laid-then-data : take (readBody (bodyOf a xs) .len) (readBody (bodyOf a xs) .bytes) ≡ xs
   laid-then-data =
       ap (λ (b : Body). take (b .len) (b .bytes)) laid-then-read ∙ held-data xs (fcsOf a xs / 256) (fcsOf a xs % 256) most
+
+  -- answered 0, with the address and the data
+  pub laid-then-answered : answerToBody (bodyOf a xs) ≡ (0, some (a, xs))
+  laid-then-answered =
+      ap bodyAnswer laid-then-read
+      ∙ ap (λ (ys : List ℕ). (0, some (a, ys))) (held-data xs (fcsOf a xs / 256) (fcsOf a xs % 256) most)
 
 -- ---- read, then laid
 refused-not : (v : Verdict) (b : Body) → refusedBody v ≡ b → b .verdict ≡ Taken → (verdictNumber v ≡ 0 → ⊥) → ⊥
