@@ -1,11 +1,11 @@
 -- A frame that this module reads is whole: its source has 24 bits, and the data of a write stand at 12. Assumes nothing.
 use mathlib.Core.Path.{_≡_, refl, sym, ap, _∙_}
 use mathlib.Core.List.{List, [], _∷_}
-use Prim.Native.Nat.{ℕ, _+_, _-_}
+use Prim.Native.Nat.{ℕ, _+_, _-_, _≤_}
 use native.Mathlib.Omega.{arith}
 use types.Run.{OneOf, miss}
 use denote.Enum.Declared.{tagOf}
-use lib.ListN.{take, drop}
+use lib.ListN.{length, take, drop, length-take, length-drop}
 use Rattle.base.specs.Bytes.{Bytes, numberAt}
 use Rattle.base.proofs.Choosing.{by-test}
 use Rattle.fields.proofs.Tables.{length-laid}
@@ -58,6 +58,10 @@ module _ (addr : ℕ) (s : List ℕ) where
         (λ p. by-test (λ r. WholeRead r s) (isSil4 s) (λ q. tt) (λ q. by-read (readApp addr s) refl))
         (λ p. tt)
 
+-- a part is no longer than the whole
+pub part-length : (n i m : ℕ) (s : List ℕ) → length s ≤ m → length (take n (drop i s)) ≤ m
+part-length n i m s h = simp (length-take, length-drop) (omega (arith, h))
+
 -- the data of a write
 pub write-data : (dest src cyc seq datl add : ℕ) (s : List ℕ) → dataIn (SafeWrite dest src cyc seq datl add) s ≡ take datl (drop 12 s)
 unfolding dataPlace
@@ -65,12 +69,11 @@ write-data dest src cyc seq datl add s =
     ap (λ (n : ℕ). take datl (drop n s)) (length-laid (headOf (SafeWrite dest src cyc seq datl add)))
 
 module _ (port : ℕ) (a : Agent) (s : List ℕ) where
-  -- as the code lends them
-  pub write-asked : (dest src cyc seq datl add : ℕ) (r : Deed) → r ≡ onRequest port a dest src cyc seq (writes add (take (12 + datl - 12) (drop 12 s)))
+  -- as the reader hands them out
+  pub write-asked : (dest src cyc seq datl add : ℕ) (xs : List ℕ) (r : Deed) → xs ≡ take datl (drop 12 s) → r ≡ onRequest port a dest src cyc seq (writes add xs)
       → r ≡ onKind port a (SafeWrite dest src cyc seq datl add) (dataIn (SafeWrite dest src cyc seq datl add) s)
-  write-asked dest src cyc seq datl add r e =
-      let n : 12 + datl - 12 ≡ datl = omega arith in
-      e ∙ ap (λ (xs : List ℕ). onRequest port a dest src cyc seq (writes add xs)) (ap (λ (k : ℕ). take k (drop 12 s)) n ∙ sym (write-data dest src cyc seq datl add s))
+  write-asked dest src cyc seq datl add xs r d e =
+      e ∙ ap (λ (ys : List ℕ). onRequest port a dest src cyc seq (writes add ys)) (d ∙ sym (write-data dest src cyc seq datl add s))
 
   -- the kinds that are not served
   pub not-served : (f : Frame) → OneOf (3 ∷ 4 ∷ 5 ∷ 6 ∷ 7 ∷ 11 ∷ 12 ∷ []) (tagOf the-type f) → does typ (formatMarked a) ≡ onKind port a f (dataIn f s)

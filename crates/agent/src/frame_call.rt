@@ -20,6 +20,7 @@ use agent_state::marks::format_marked;
 use agent_state::marks::line_marked;
 use agent_state::registers::TID;
 use fields::byte_field;
+use fields::data_field;
 use frames::kinds::Frame;
 use frames::reading::Read;
 use frames::reading::read_app;
@@ -30,6 +31,9 @@ use wire::body::Body;
 use wire::body::Verdict;
 use wire::body::read_body;
 use wire::body::verdict_number;
+
+// Where the data of a write stand: behind ADD.
+const DATA_PLACE: usize = 12;
 
 // By the kind of a served frame that was read in application data.
 fn on_kind(port: u8, a: Agent, f: Frame, s: &[u8]) -> Deed
@@ -54,8 +58,8 @@ fn on_kind(port: u8, a: Agent, f: Frame, s: &[u8]) -> Deed
             datl,
             add,
         } => {
-            let to = 12 + (datl as usize);
-            on_request(port, a, dest, src, cyc, seq, Ask::Writes(add), &s[12..to])
+            let xs = data_field(s, DATA_PLACE, datl as usize);
+            on_request(port, a, dest, src, cyc, seq, Ask::Writes(add), xs)
         }
         Frame::TidAssignment { iid, tid, .. } => on_tid(a, iid, tid),
         Frame::SidAssignment { src, sec, mac, sid } => on_sid(a, src, sec, mac, sid),

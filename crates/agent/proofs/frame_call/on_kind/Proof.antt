@@ -1,9 +1,7 @@
 -- `frame_call::on_kind` meets its contract: each kind. Assumes nothing.
 use mathlib.Core.Path.{_∙_}
-use native.Mathlib.Omega.{arith}
-use lib.ListN.{length-take, length-drop}
 use borrow.Author.Needs.{needs}
-use Rattle.agent.proofs.WholeLaws.{write-asked, not-served}
+use Rattle.agent.proofs.WholeLaws.{part-length, write-asked, not-served}
 use Rattle.agent.proofs.frame_call.on_kind.Statement.{statement}
 use Rattle.agent.proofs.frame_call.on_kind.Tie as tie
 
@@ -22,26 +20,17 @@ on-request-requires c κs = let s = c .before .before .before .before in (rw (c 
 enum-known-f-3 : tie.Need-enum-known-f-3
 enum-known-f-3 c = search needs
 
-cast-to : tie.Need-cast-to
-cast-to c = search needs
+cast-data-field : tie.Need-cast-data-field
+cast-data-field c = search needs
 
-add-to : tie.Need-add-to
-add-to c = search needs
-
-sub-on-request : tie.Need-sub-on-request
-sub-on-request c = search needs
-
-part-on-request-start : tie.Need-part-on-request-start
-part-on-request-start c = search needs
-
-part-on-request-end : tie.Need-part-on-request-end
-part-on-request-end c = (rw (c .before .f3 .given .1) at (c .before .before .before .before .pre .0)) .1
+data-field-requires : tie.Need-data-field-requires
+data-field-requires c κs = search needs
 
 on-request-requires-2 : tie.Need-on-request-requires-2
 on-request-requires-2 c κs =
     let s = c .before .before .before .before .before in
     let w = rw (c .before .before .f3 .given .1) at (s .pre .0) in
-    (w .0, simp (length-take, length-drop) (omega (arith, s .pre .1)))
+    (w .0, rw (c .data-field .ensures) (part-length (c .before .before .f3 .given .0 .1 .1 .1 .1 .0) 12 272 (s .args .s .now) (s .pre .1)))
 
 enum-known-f-4 : tie.Need-enum-known-f-4
 enum-known-f-4 c = search needs
@@ -78,7 +67,7 @@ returns-3 c =
     let a = c .before .before .before .before .before .before .args in
     let v = c .before .before .before .f3 .given .0 in (
       rw (c .before .before .before .f3 .given .1)
-          (write-asked (a .port) (a .a) (a .s .now) (v .0) (v .1 .0) (v .1 .1 .0) (v .1 .1 .1 .0) (v .1 .1 .1 .1 .0) _ _ (c .on-request2 .ensures .0)),
+          (write-asked (a .port) (a .a) (a .s .now) (v .0) (v .1 .0) (v .1 .1 .0) (v .1 .1 .1 .0) (v .1 .1 .1 .1 .0) _ _ _ (c .before .data-field .ensures) (c .on-request2 .ensures .0)),
       c .on-request2 .ensures .1,
     )
 
@@ -105,11 +94,8 @@ on-kind-spec =
     enum-known-f-2
     on-request-requires
     enum-known-f-3
-    cast-to
-    add-to
-    sub-on-request
-    part-on-request-start
-    part-on-request-end
+    cast-data-field
+    data-field-requires
     on-request-requires-2
     enum-known-f-4
     on-tid-requires
