@@ -3,12 +3,12 @@ use crate::answers;
 use crate::body_case;
 use crate::crc_case;
 use crate::frame_case;
-use libc::STDIN_FILENO;
-use libc::STDOUT_FILENO;
+use console::blocks;
+use console::lines;
+use console::lines::Cursor;
 use text::hex;
 use text::hex::Hex;
-use text::lines;
-use text::lines::Taken;
+use text::lines::LF;
 use text::putting;
 
 // Whose cases they are.
@@ -46,77 +46,38 @@ fn answer(cases: Cases, line: &[u8], len: usize, out: &mut [u8]) -> usize {
     }
 }
 
-// The answer to a line, written; whether it was.
-fn answer_line(cases: Cases, line: &[u8], len: usize) -> bool {
-    let mut out = [0u8; 1210];
-    let n = answer(cases, line, len, &mut out);
-    let end = putting::put_text(&mut out, n, &[lines::LF]);
-    write_first(&out, end)
+// The answer to a line with its LF, put at a place of the output.
+fn put_answer(cases: Cases, line: &[u8], len: usize, out: &mut [u8], at: usize) -> usize {
+    let mut text = [0u8; 1210];
+    let n = answer(cases, line, len, &mut text);
+    let end = putting::put_text(&mut text, n, &[LF]);
+    blocks::put_first(out, at, &text, end)
 }
 
-fn write_first(out: &[u8], n: usize) -> bool {
-    if out.len() < n {
-        return false;
-    }
-    io::write_all(STDOUT_FILENO, &out[0..n])
-}
-
-// What came of some input: a line of so many characters goes on, or it is over.
-enum Fed {
-    Open(usize),
-    Over,
-}
-
-// The lines of a block.
-fn feed(cases: Cases, block: &[u8], line: &mut [u8], len: usize) -> Fed {
-    let mut n = len;
-    let mut at: usize = 0;
-    while at < block.len() {
-        match lines::take_line(block, at, line, n) {
-            Taken::Line(k, next) => {
-                if !answer_line(cases, line, k) {
-                    return Fed::Over;
-                }
-                n = 0;
-                at = next;
-            }
-            Taken::More(k) => {
-                return Fed::Open(k);
-            }
-        }
-    }
-    Fed::Open(n)
-}
-
-// One block; at the end of the input the last line, which may lack its LF.
-fn step(cases: Cases, line: &mut [u8], len: usize) -> Fed {
-    let mut block = io::large_buffer();
-    let got = libc::read(STDIN_FILENO, &mut block);
-    let n = io::count(got, &block);
-    if n == 0 {
-        if len != 0 {
-            answer_line(cases, line, len);
-        }
-        return Fed::Over;
-    }
-    feed(cases, &block[..n], line, len)
-}
-
-// A proved loop has to end, and nothing says that the input does. So the loop counts its turns down, from a number that
-// no run uses up.
-pub fn run(cases: Cases) {
-    let mut line = lines::no_line();
-    let mut len: usize = 0;
+// The answers to all lines: they are handed on where the output is full, and the last stand there.
+fn answer_all(
+    cases: Cases,
+    block: &mut [u8; 65536],
+    line: &mut [u8; 1200],
+    out: &mut [u8; 16384],
+) -> Cursor {
+    let mut c = lines::begin(0);
     let mut turns = u64::MAX;
     while turns > 0 {
-        match step(cases, &mut line, len) {
-            Fed::Open(n) => {
-                len = n;
-            }
-            Fed::Over => {
-                return;
-            }
+        c = lines::next_line(block, line, out, c);
+        if !c.whole {
+            return c;
         }
+        c.to = put_answer(cases, line, c.len, out, c.to);
         turns -= 1;
     }
+    c
+}
+
+pub fn run(cases: Cases) {
+    let mut block = io::large_buffer();
+    let mut line = text::lines::no_line();
+    let mut out = blocks::no_output();
+    let c = answer_all(cases, &mut block, &mut line, &mut out);
+    lines::close(&out, c);
 }

@@ -1,82 +1,97 @@
 // Standard input, line by line, to standard output.
+ghost use mathlib.Core.Path.{_≡_};
+ghost use mathlib.Core.Bool.{true};
+ghost use Prim.Native.Nat.{_≤_};
+ghost use lib.Dec.{ltb};
+ghost use lib.ListN.{length, take};
+ghost use Rattle.base.specs.Choice.{choose};
+ghost use Rattle.text.specs.Putting.{putAt, placeAfter};
+ghost use Rattle.frame_fields.specs.Texts.{textIn};
+ghost use Rattle.console.specs.Answering.{Spoken};
+ghost use Rattle.framing.specs.Answers.{answerOf, overText};
+ghost use Rattle.framing.specs.Running.{numberOf, answeredIn};
+ghost use Rattle.framing.specs.Running.{answering as Running·answering};
 use crate::answering;
 use crate::grammar;
+use console::blocks;
+use console::lines;
+use console::lines::Cursor;
 use frame_fields::table::Kind;
 use frame_fields::texts;
 use frame_fields::texts::Text;
-use libc::STDIN_FILENO;
-use libc::STDOUT_FILENO;
-use text::lines;
-use text::lines::Taken;
-
-// A text with its LF, written; whether it was.
-fn write_line(t: Text) -> bool {
-    let u = texts::add(t, &[lines::LF]);
-    let bytes = u.bytes;
-    write_first(&bytes, u.len)
-}
-
-fn write_first(bytes: &[u8], n: usize) -> bool {
-    if bytes.len() < n {
-        return false;
-    }
-    io::write_all(STDOUT_FILENO, &bytes[0..n])
-}
+use text::lines::LF;
 
 // A line of `len` characters, or one that is longer than there is room for.
-fn answer_to(number: &[u8], line: &[u8], len: usize) -> Text {
+fn answer_to(number: &[u8], line: &[u8], len: usize) -> Text
+    ensures { λ r. ⌜ r ≡ choose (ltb (length (now (line .entry))) len) (overText (now (number .entry))) (answerOf (now (number .entry)) (take len (now (line .entry)))) ⌝ }
+{
     if line.len() < len {
         return answering::over(number);
     }
-    answering::answer(number, &line[0..len])
+    answering::answer(number, &line[..len])
 }
 
-// The number is the first `k` characters.
-fn answer_numbered(number: &[u8], k: usize, line: &[u8], len: usize) -> Text {
-    if number.len() < k {
-        return texts::no_text();
-    }
-    answer_to(&number[0..k], line, len)
-}
-
-// The answer to the line behind `before` lines, written; whether it was.
-fn answer_line(before: u64, line: &[u8], len: usize) -> bool {
-    let number = texts::add_number(texts::no_text(), next_line(before));
-    let digits = number.bytes;
-    write_line(answer_numbered(&digits, number.len, line, len))
-}
-
-fn next_line(before: u64) -> u64 {
+fn next_number(before: u64) -> u64
+    ensures { λ r. ⌜ r ≡ numberOf before ⌝ }
+{
     std::num::wrapping_add_u64(before, 1)
 }
 
-// What came of some input: so many lines, and so many characters of the next; or it is over.
-enum Fed {
-    Open(u64, usize),
-    Over,
+// The answer to the line behind `before` lines, with its LF.
+fn answer_in(before: u64, line: &[u8], len: usize) -> Text
+    ensures { λ r. ⌜ r ≡ answeredIn before (now (line .entry)) len ⌝ }
+{
+    let number = texts::add_number(texts::no_text(), next_number(before));
+    let digits = number.bytes;
+    let k = blocks::least(digits.len(), number.len);
+    texts::add(answer_to(&digits[..k], line, len), &[LF])
 }
 
-// The lines of a block.
-fn feed(block: &[u8], before: u64, line: &mut [u8], len: usize) -> Fed {
-    let mut count = before;
-    let mut n = len;
-    let mut at: usize = 0;
-    while at < block.len() {
-        match lines::take_line(block, at, line, n) {
-            Taken::Line(k, next) => {
-                if !answer_line(count, line, k) {
-                    return Fed::Over;
-                }
-                count = next_line(count);
-                n = 0;
-                at = next;
-            }
-            Taken::More(k) => {
-                return Fed::Open(count, k);
-            }
+// The answer put at a place of the output.
+fn put_answer(before: u64, line: &[u8], len: usize, out: &mut [u8], at: usize) -> usize
+    ensures { λ r. ⌜ (length (textIn (answeredIn before (now (line .entry)) len)) ≤ 1200) × (r ≡ placeAfter (length (now (out .entry))) at (textIn (answeredIn before (now (line .entry)) len))) × (now (out .exit) ≡ putAt (now (out .entry)) at (textIn (answeredIn before (now (line .entry)) len))) ⌝ }
+{
+    let t = answer_in(before, line, len);
+    let bytes = t.bytes;
+    blocks::put_first(out, at, &bytes, t.len)
+}
+
+// How many lines were answered, and where the program then stands.
+struct End {
+    lines: u64,
+    cursor: Cursor,
+}
+
+// The answers to all lines: they are handed on where the output is full, and the last stand there.
+fn answer_all(block: &mut [u8; 65536], line: &mut [u8; 1200], out: &mut [u8; 16384]) -> End
+    ensures { λ r. ⌜ (r .cursor .ended ≡ true → Spoken Running·answering (r .lines) (now (block .exit)) (now (out .exit)) (r .cursor)) ⌝ }
+{
+    let mut count: u64 = 0;
+    let mut c = lines::begin(0);
+    let mut turns = u64::MAX;
+    while turns > 0 {
+        c = lines::next_line(block, line, out, c);
+        if !c.whole {
+            return End {
+                lines: count,
+                cursor: c,
+            };
         }
+        c.to = put_answer(count, line, c.len, out, c.to);
+        count = next_number(count);
+        turns -= 1;
     }
-    Fed::Open(count, n)
+    End {
+        lines: count,
+        cursor: c,
+    }
+}
+
+// A text with its LF, written; whether it was.
+fn write_line(t: Text) -> bool {
+    let u = texts::add(t, &[LF]);
+    let bytes = u.bytes;
+    blocks::write_first(&bytes, u.len)
 }
 
 fn write_form(kind: Kind) -> bool {
@@ -105,49 +120,23 @@ fn write_others() -> bool {
         && write_line(texts::add(texts::no_text(), b"body xx..."))
 }
 
-// The end of the input: the last line, which may lack its LF; or the grammar, where there was nothing.
-fn finish(before: u64, line: &[u8], len: usize) -> bool {
-    if len != 0 {
-        return answer_line(before, line, len);
-    }
-    if before != 0 {
-        return true;
-    }
-    if !write_requests() {
-        return false;
-    }
-    write_others()
-}
-
-// One block.
-fn step(before: u64, line: &mut [u8], len: usize) -> Fed {
-    let mut block = io::large_buffer();
-    let got = libc::read(STDIN_FILENO, &mut block);
-    let n = io::count(got, &block);
-    if n == 0 {
-        finish(before, line, len);
-        return Fed::Over;
-    }
-    feed(&block[..n], before, line, len)
-}
-
-// A proved loop has to end, and nothing says that the input does. So the loop counts its turns down, from a number that
-// no run uses up.
+// The answers; or the grammar, where there was nothing.
 pub fn run() {
-    let mut line = lines::no_line();
-    let mut count: u64 = 0;
-    let mut len: usize = 0;
-    let mut turns = u64::MAX;
-    while turns > 0 {
-        match step(count, &mut line, len) {
-            Fed::Open(k, n) => {
-                count = k;
-                len = n;
-            }
-            Fed::Over => {
-                return;
-            }
-        }
-        turns -= 1;
+    let mut block = io::large_buffer();
+    let mut line = text::lines::no_line();
+    let mut out = blocks::no_output();
+    let end = answer_all(&mut block, &mut line, &mut out);
+    let c = end.cursor;
+    if !lines::close(&out, c) {
+        return;
+    }
+    if !c.ended {
+        return;
+    }
+    if end.lines != 0 {
+        return;
+    }
+    if write_requests() {
+        write_others();
     }
 }

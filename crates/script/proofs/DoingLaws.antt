@@ -4,7 +4,7 @@ use mathlib.Core.List.{List}
 use Prim.Native.Nat.{ℕ, _+_, _-_, _≤_, _<_}
 use native.Mathlib.Omega.{arith}
 use lib.ListN.{length, take, drop, length-append}
-use lib.Seq.{take-at, take-all}
+use lib.Seq.{take-at}
 use Rattle.base.proofs.Fills.{left-turn, left-end}
 use Rattle.rules.specs.Calls.{tickCall, leftIn}
 use Rattle.rules.specs.Replies.{Outcome, outcome}
@@ -20,10 +20,6 @@ ticked-turn n i a b z h q e = ap (ticked (n - (i + 1))) q ∙ ap (λ (m : ℕ). 
 pub ticked-end : (n i : ℕ) (a z : Agent) → n ≤ i → ticked (n - i) a ≡ z → a ≡ z
 unfolding ticked
 ticked-end n i a z h e = ap (λ (m : ℕ). ticked m a) (sym (left-end n i h)) ∙ e
-
--- ---- so many of a list
-pub all-of : (len n : ℕ) → len < n → (s : List ℕ) → length s ≡ len → take len s ≡ take n s
-all-of len n h s e = take-all len s (omega arith) ∙ sym (take-all n s (omega arith))
 
 -- ---- what is handed back
 module _ (h : Handled) (o : Outcome) (out : List ℕ) (p : h .answer ≡ o .answer) (q : h .agent ≡ o .agent) (r : h .sent ≡ length (o .line)) where

@@ -1,5 +1,5 @@
 pub mod FormLaws
-pub mod KeptLines
+pub mod RunningLaws
 pub mod DoingLaws
 pub mod PrintingLaws
 pub mod PlayingLaws

@@ -2,15 +2,14 @@
 use mathlib.Core.Path.{_≡_, ap, _∙_}
 use mathlib.Core.Bool.{Bool}
 use mathlib.Core.List.{List}
-use Prim.Native.Nat.{ℕ, _+_, _≤_}
-use native.Mathlib.Omega.{arith}
+use Prim.Native.Nat.{ℕ, _≤_}
 use lib.ListN.{length}
-use Rattle.text.proofs.PuttingLaws.{Put, put-whole}
+use Rattle.text.proofs.PuttingLaws.{Put}
 use Rattle.rules.specs.Replies.{Outcome}
 use Rattle.agent_replies.specs.declared.sending.Handled.{Handled}
 use Rattle.script.specs.Forms.{stepIn, isBadForm}
 use Rattle.script.specs.Doing.{done, told}
-use Rattle.script.specs.Printing.{printed, Wrote}
+use Rattle.script.specs.Printing.{printed}
 use Rattle.script.specs.Playing.{numberOf, after, shown}
 use Rattle.script.specs.declared.forms.Form.{Form}
 use Rattle.script.specs.declared.playing.Player.{Player}
@@ -31,8 +30,3 @@ module _ (p : Player) (view : View) (form : Form) (bytes : List ℕ) (h : Handle
   pub form-played : (out : List ℕ) (at r : ℕ) (out′ : List ℕ) → Put out at (printed view n b (told h reply)) r out′
       → (_≡_ {A = Player} record { agent = h .agent; lines = n } (after p (stepIn form bytes))) × Put out at (shown view p (stepIn form bytes)) r out′
   form-played out at r out′ w = (player-after, rw text-shown at w)
-
--- a text put where there is room for it
-pub put-in-room : (out : List ℕ) (at : ℕ) (text : List ℕ) (r : ℕ) (out′ : List ℕ) → at + 1700 ≤ length out → length text ≤ 1700
-    → Put out at text r out′ → Wrote out at text r out′
-put-in-room out at text r out′ h l p = put-whole out at text (omega arith) r out′ p

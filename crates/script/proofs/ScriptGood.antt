@@ -25,10 +25,12 @@ use Rattle.rules.specs.declared.Agent.{Agent}
 use Rattle.rules.proofs.GoodNext.{good-next}
 use Rattle.rules.proofs.GoodStart.{good-start}
 use Rattle.rules.proofs.NeverUnsound.{never-unsound}
+use Rattle.console.specs.Programs.{nextAll}
 use Rattle.script.specs.Forms.{Step, ticks, frame, inputs, bad, longest, mostTicks, ticksOf, frameOf, inputsOf, formOf, lineOf}
 use Rattle.script.specs.Doing.{ticked, done}
-use Rattle.script.specs.Playing.{start, after, playedAll}
+use Rattle.script.specs.Playing.{start, after, scripted}
 use Rattle.script.specs.declared.playing.Player.{Player}
+use Rattle.script.specs.declared.printing.View.{View}
 
 -- ---- what hex digits say is bytes
 SaysByte : Pair → Type 0
@@ -111,12 +113,12 @@ done-good a (frame port body) g h = good-next a (calls.frame port body 545) g h
 done-good a (inputs xs) g h = good-next a (calls.input xs) g (h .1)
 done-good a bad g h = g
 
-from-good : (p : Player) (ls : List (List ℕ)) → Good (p .agent) → Good (playedAll p ls .agent)
-from-good p [] g = g
-from-good p (l ∷ ls) g = from-good (after p (lineOf l)) ls (done-good (p .agent) (lineOf l) g (line-sized l))
+from-good : (view : View) (p : Player) (ls : List (List ℕ)) → Good (p .agent) → Good (nextAll (scripted view) p ls .agent)
+from-good view p [] g = g
+from-good view p (l ∷ ls) g = from-good view (after p (lineOf l)) ls (done-good (p .agent) (lineOf l) g (line-sized l))
 
-pub script-good : (ls : List (List ℕ)) → Good (playedAll start ls .agent)
-script-good ls = from-good start ls (good-start 1 2 0)
+pub script-good : (view : View) (ls : List (List ℕ)) → Good (nextAll (scripted view) start ls .agent)
+script-good view ls = from-good view start ls (good-start 1 2 0)
 
 -- ---- so the answers printed are those of the calls
 pub tick-accepted : (a : Agent) → Good a → tickCall a .answer ≡ 0

@@ -2,4 +2,3 @@ pub mod Forms
 pub mod Doing
 pub mod Printing
 pub mod Playing
-pub mod Running

@@ -1,6 +1,7 @@
 -- A script, line by line. Assumes nothing.
-use mathlib.Core.List.{List, [], _∷_, _++_}
+use mathlib.Core.List.{List, []}
 use Prim.Native.Nat.{ℕ, _+_, _%_, _^_}
+use Rattle.console.specs.Programs.{Program}
 use Rattle.rules.specs.PowerUp.{powerUp}
 use Rattle.script.specs.Forms.{Step, isBad, lineOf}
 use Rattle.script.specs.Doing.{done}
@@ -22,14 +23,12 @@ after p s = record { agent = done (p .agent) s .agent; lines = numberOf p }
 abbrev pub shown : View → Player → Step → List ℕ
 shown view p s = printed view (numberOf p) (isBad s) (done (p .agent) s)
 
--- the lines of a script, and what it prints whole
-abbrev pub playedAll : Player → List (List ℕ) → Player
-playedAll p [] = p
-playedAll p (l ∷ ls) = playedAll (after p (lineOf l)) ls
-
-abbrev pub shownAll : View → Player → List (List ℕ) → List ℕ
-shownAll view p [] = []
-shownAll view p (l ∷ ls) = shown view p (lineOf l) ++ shownAll view (after p (lineOf l)) ls
-
-abbrev pub transcript : View → List (List ℕ) → List ℕ
-transcript view ls = headerOf view ++ shownAll view start ls
+-- as a program that answers lines: the header first, and what is shown of each
+abbrev pub scripted : View → Program Player
+scripted view = record {
+  start = start;
+  first = headerOf view;
+  next = λ p l. after p (lineOf l);
+  says = λ p l. shown view p (lineOf l);
+  ends = λ p. [];
+}

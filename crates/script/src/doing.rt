@@ -1,8 +1,7 @@
 // What a line does to the module.
-ghost use mathlib.Core.List.{List};
 ghost use mathlib.Core.Path.{_≡_};
-ghost use Prim.Native.Nat.{ℕ, _≤_};
-ghost use lib.ListN.{length, take, replicate};
+ghost use Prim.Native.Nat.{_≤_};
+ghost use lib.ListN.{take, replicate};
 ghost use Rattle.rules.specs.Calls.{inputCall, frameCall};
 ghost use Rattle.script.specs.Forms.{stepIn};
 ghost use Rattle.script.specs.Doing.{ticked, done, told};
@@ -11,6 +10,7 @@ use crate::forms::IMAGE;
 use agent::calls;
 use agent_replies::sending::Handled;
 use agent_state::answers::ACCEPTED;
+use console::blocks::least;
 use rules::Agent;
 
 // A reply buffer of the least length that the frame call takes.
@@ -31,16 +31,6 @@ fn ticks(a: Agent, n: u64) -> Agent
         i += 1;
     }
     b
-}
-
-// So many of the bytes of a slice, or all that there are.
-fn least(len: usize, n: usize) -> usize
-    ensures { λ r. ⌜ (r ≤ len) × ((s : List ℕ) → length s ≡ len → take r s ≡ take n s) ⌝ }
-{
-    if len < n {
-        return len;
-    }
-    n
 }
 
 fn inputs(a: Agent, bytes: &[u8]) -> Agent

@@ -21,8 +21,6 @@ pub enum View {
 const IN_RUN: u8 = 1;
 
 // Room for the text of the longest line.
-pub const MOST: usize = 1700;
-
 pub fn no_text() -> [u8; 1700]
     ensures { λ r. ⌜ r ≡ replicate 1700 0 ⌝ }
 {

@@ -3,5 +3,4 @@ pub mod HexBothWays
 pub mod DecimalLaws
 pub mod DecimalBothWays
 pub mod LineLaws
-pub mod Blocks
 pub mod PuttingLaws

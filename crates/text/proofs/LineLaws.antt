@@ -122,15 +122,3 @@ module _ (s : List ℕ) (from : ℕ) (line₀ : List ℕ) (len : ℕ) where
     goes-more h =
         let d = ended line n i g (rest-none s i h) in
         (simp (← d .0, ← d .1, le-ltb _ _ h), d .2)
-
--- ---- what a caller's loop wants: a complete line ends behind the place where it went on, and within the block
-pub taken-further : (s : List ℕ) (from most len n next : ℕ) → takenOf s from most len ≡ Line n next → (from < next) × (next ≤ length s)
-unfolding takenOf
-taken-further s from most len n next e = by (ltb (from + length (beforeEnd (drop from s))) (length s)) refl
-  where
-    by : (t : Bool) → ltb (from + length (beforeEnd (drop from s))) (length s) ≡ t → (from < next) × (next ≤ length s)
-    by true t =
-        let h : from + length (beforeEnd (drop from s)) < length s = ltb-true _ _ t in
-        let q : next ≡ from + length (beforeEnd (drop from s)) + 1 = cc in
-        (omega arith, omega arith)
-    by false t = absurd (let z : _≡_ {A = ℕ} 0 1 = cc in omega arith)

@@ -1,0 +1,77 @@
+// Blocks of standard input, and text to standard output.
+ghost use mathlib.Core.Path.{_≡_};
+ghost use mathlib.Core.List.{List};
+ghost use Prim.Native.Nat.{ℕ, _≤_};
+ghost use lib.ListN.{length, take};
+ghost use Rattle.text.specs.Putting.{putAt, placeAfter};
+ghost use Rattle.io.specs.Counts.{Counts};
+ghost use Rattle.console.specs.Handing.{Placed};
+use libc::STDIN_FILENO;
+use libc::STDOUT_FILENO;
+use text::putting::put_text;
+
+// Room for the longest text that a program says to one line.
+pub const MOST: usize = 2048;
+
+// The text of many lines before it is written.
+pub fn no_output() -> [u8; 16384]
+    ensures { λ r. ⌜ 16384 ≡ length r ⌝ }
+{
+    [0; 16384]
+}
+
+// The next block of the input, at the start of a buffer; its length, none at the end.
+pub fn read_block(block: &mut [u8]) -> usize
+    ensures { λ r. ⌜ Counts r (now (block .exit)) ⌝ }
+{
+    let got = libc::read(STDIN_FILENO, block);
+    io::count(got, block)
+}
+
+// So many bytes from the start of the output, written; whether they were.
+pub fn write_first(out: &[u8], n: usize) -> bool {
+    if out.len() < n {
+        return false;
+    }
+    io::write_all(STDOUT_FILENO, &out[..n])
+}
+
+// So many of the bytes of a slice, or all that there are.
+pub fn least(len: usize, n: usize) -> usize
+    ensures { λ r. ⌜ (r ≤ len) × ((s : List ℕ) → length s ≡ len → take r s ≡ take n s) ⌝ }
+{
+    if len < n {
+        return len;
+    }
+    n
+}
+
+// The first bytes of a text, put at a place of the output: whole, or not at all where there is no room.
+pub fn put_first(out: &mut [u8], at: usize, text: &[u8], n: usize) -> usize
+    ensures { λ r. ⌜ (r ≡ placeAfter (length (now (out .entry))) at (take n (now (text .entry)))) × (now (out .exit) ≡ putAt (now (out .entry)) at (take n (now (text .entry)))) ⌝ }
+{
+    let k = least(text.len(), n);
+    put_text(out, at, &text[..k])
+}
+
+// The place of the next text, or that the output is closed.
+pub enum Place {
+    At(usize),
+    Closed,
+}
+
+// Room for one more text behind a place: where it is short, what stands is written first.
+pub fn make_room(out: &[u8], to: usize) -> Place
+    ensures { λ r. ⌜ Placed (now (out .entry)) to r ⌝ }
+{
+    if out.len() < MOST {
+        return Place::Closed;
+    }
+    if to <= out.len() - MOST {
+        return Place::At(to);
+    }
+    if write_first(out, to) {
+        return Place::At(0);
+    }
+    Place::Closed
+}

@@ -1,0 +1,29 @@
+-- The program that answers a line each, numbered from 1. Assumes nothing.
+use mathlib.Core.List.{List, [], _∷_}
+use Prim.Native.Nat.{ℕ, _+_, _%_, _^_}
+use lib.Dec.{ltb}
+use lib.ListN.{length, take}
+use Rattle.base.specs.Choice.{choose}
+use Rattle.text.specs.Decimal.{decimalText}
+use Rattle.console.specs.Programs.{Program}
+use Rattle.frame_fields.specs.Texts.{noText, put, textIn}
+use Rattle.frame_fields.specs.declared.texts.Text.{Text}
+use Rattle.framing.specs.Answers.{answerOf, overText}
+
+-- the number of the line behind so many, in 64 bits, and as text
+abbrev pub numberOf : ℕ → ℕ
+numberOf n = (n + 1) % 2 ^ 64
+
+unfoldable pub numberText : ℕ → List ℕ
+numberText n = textIn (put noText (decimalText (numberOf n)))
+
+-- the answer to a line behind so many, with its LF
+unfoldable pub answered : ℕ → List ℕ → Text
+answered n chars = put (answerOf (numberText n) chars) (0x0A ∷ [])
+
+abbrev pub answering : Program ℕ
+answering = record { start = 0; first = []; next = λ n l. numberOf n; says = λ n l. textIn (answered n l); ends = λ n. [] }
+
+-- a line of len characters, of which a buffer keeps the first
+unfoldable pub answeredIn : ℕ → List ℕ → ℕ → Text
+answeredIn n line len = put (choose (ltb (length line) len) (overText (numberText n)) (answerOf (numberText n) (take len line))) (0x0A ∷ [])
