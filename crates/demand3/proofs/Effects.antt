@@ -53,8 +53,8 @@ abbrev commanded : Clocks → Clocks
 commanded x = record { s = x .s; q = 0 }
 
 -- one tick, in that mode
-abbrev counted : ℕ → Clocks → Clocks
-counted mode x = record { s = choose (ltb (x .s) silenceEnd) (x .s + 1) silenceEnd; q = choose (eqb mode inRun) (x .q + 1) (x .q) }
+abbrev clocksOn : ℕ → Clocks → Clocks
+clocksOn mode x = record { s = choose (ltb (x .s) silenceEnd) (x .s + 1) silenceEnd; q = choose (eqb mode inRun) (x .q + 1) (x .q) }
 
 abbrev withRegisters : Registers → View → View
 withRegisters r v = record { mode = v .mode; assigned = v .assigned; registers = r; cycle = v .cycle; clocks = v .clocks }
@@ -70,7 +70,7 @@ abbrev pub fallen : View → View
 fallen v = record { mode = inFallback; assigned = v .assigned; registers = cold (v .registers); cycle = v .cycle; clocks = commanded (v .clocks) }
 
 abbrev pub countedOn : View → View
-countedOn v = withClocks (counted (v .mode) (v .clocks)) v
+countedOn v = withClocks (clocksOn (v .mode) (v .clocks)) v
 
 abbrev pub nextCycle : View → View
 nextCycle v = withCycle (record { last = v .cycle .last; heard = unheard; c = (v .cycle .c + 1) % 256; k = 0 }) v
