@@ -21,9 +21,10 @@ pub tick-unsound : (a : Agent) (t : Bool) → t ≡ sound a → t ≡ false → 
 unfolding tickCall
 tick-unsound a t d h = rw (← d, h) (refl, refl)
 
-pub inputs-taken : (a b : Agent) (xs : List ℕ) (t : Bool) → t ≡ sound a → t ≡ true → length xs ≡ image → b ≡ withInputs xs a → Answers (inputCall a xs) accepted b
+pub inputs-accepted : (a b : Agent) (xs : List ℕ) (t : Bool) → t ≡ sound a → t ≡ true → length xs ≡ image → b ≡ withInputs xs a
+    → Answers (inputCall a xs) accepted b
 unfolding inputCall
-inputs-taken a b xs t d h k e = rw (← d, h, eq-eqb (length xs) image k) (refl, e)
+inputs-accepted a b xs t d h k e = rw (← d, h, eq-eqb (length xs) image k) (refl, e)
 
 pub inputs-refused : (a : Agent) (xs : List ℕ) (t : Bool) → t ≡ sound a → t ≡ true → (length xs ≡ image → ⊥) → Answers (inputCall a xs) hostInput a
 unfolding inputCall

@@ -1,4 +1,4 @@
-// Registers at power-up.
+// The agent at power-up: its registers, and the state beside them.
 ghost use mathlib.Core.Path.{_≡_};
 ghost use lib.ListN.{replicate};
 ghost use lib.Seq.{sets};
@@ -22,6 +22,7 @@ use agent_state::registers::put_low;
 use agent_state::state::IN_FALLBACK;
 use agent_state::state::NOBODY;
 use agent_state::state::UNHEARD;
+use agent_state::tid::UNASSIGNED;
 use rules::Agent;
 
 // All 256 registers start at zero.
@@ -35,7 +36,7 @@ fn zero_registers() -> [u8; 256]
 fn put_settings(regs: &mut [u8; 256])
     ensures { λ r. ⌜ now (regs .exit) ≡ sets (now (regs .entry)) 0x13 settings ⌝ }
 {
-    regs[TID] = 0x8F;
+    regs[TID] = UNASSIGNED;
     regs[SID] = 0xFF;
     regs[0x15] = 0xFF;
     regs[0x16] = 0xFF;

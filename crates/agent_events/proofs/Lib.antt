@@ -1,4 +1,3 @@
 pub mod TickLaws
-pub mod StoredPast
 pub mod WriteLaws
 pub mod SpanArms

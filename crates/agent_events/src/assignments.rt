@@ -1,7 +1,7 @@
 // TID and SID assignment.
 ghost use mathlib.Core.Path.{_≡_};
 ghost use Prim.Native.Nat.{_^_, _<_};
-ghost use Rattle.rules.specs.Assignments.{assignable, onTid, onFirstSid, onLaterSid, onSid};
+ghost use Rattle.rules.specs.Assignments.{onTid, onFirstSid, onLaterSid, onSid};
 ghost use Rattle.agent_replies.specs.Fitting.{Fitting};
 use agent_replies::replies::acknowledges;
 use agent_replies::replies::does;
@@ -20,15 +20,9 @@ use agent_state::sources::is_recorded;
 use agent_state::sources::recorded;
 use agent_state::sources::sid_of;
 use agent_state::state::NOBODY;
+use agent_state::tid::assignable;
 use rules::Agent;
 use rules::Deed;
-
-// 01h to 8Eh but not 7Dh, 7Eh.
-fn assignable(tid: u8) -> bool
-    ensures { λ r. ⌜ r ≡ assignable tid ⌝ }
-{
-    ((0x01 <= tid) & (tid <= 0x8E)) & !((tid == 0x7D) | (tid == 0x7E))
-}
 
 // For the own IID; no reply.
 pub fn on_tid(a: Agent, iid: u64, tid: u8) -> Deed
@@ -45,7 +39,7 @@ pub fn on_tid(a: Agent, iid: u64, tid: u8) -> Deed
     does(NOT_ALLOWED, a)
 }
 
-// The first is taken if SID and SRC differ from FFFFFFh.
+// The first is accepted if SID and SRC differ from FFFFFFh.
 fn on_first_sid(a: Agent, src: u32, sec: u32, sid: u32) -> Deed
     requires { ⌜ (src < 2 ^ 24) × (a .count ≡ 0) ⌝ }
     ensures { λ r. ⌜ (r ≡ onFirstSid a src sec sid) × Fitting (r .reply) ⌝ }

@@ -1,8 +1,8 @@
-// What each event does: tick, inputs, sync, safe request, write, assignments. One function a rule, as in `rules`; only the
-// crates of the agent call them.
+// What each event does: tick, inputs, sync, safe request, write, assignments. One function for each rule, as in `rules`.
+// Only the crates of the agent call these.
 pub mod assignments;
 pub mod inputs;
 pub mod requests;
 pub mod sync;
 pub mod tick;
-pub mod writes;
+mod writes;

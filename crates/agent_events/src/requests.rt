@@ -1,4 +1,4 @@
-// Safe request.
+// Safe request: its source, SID and cycle, then how far its SEQ is from the first of the cycle, then what it asks for.
 ghost use mathlib.Core.Path.{_≡_};
 ghost use Prim.Native.Nat.{_^_, _<_, _≤_};
 ghost use lib.ListN.{length};
@@ -17,12 +17,10 @@ use agent_state::answers::TOO_MANY;
 use agent_state::marks::sequence_marked;
 use agent_state::sources::sid_of;
 use agent_state::state::IS_HEARD;
+use agent_state::state::MOST_TAKEN;
 use agent_state::state::NOBODY;
 use rules::Agent;
 use rules::Deed;
-
-// The most requests a cycle.
-const MOST_TAKEN: u8 = 64;
 
 // The first SEQ of a cycle is the complement of CYC plus one, modulo 256.
 fn first_seq(cyc: u8) -> u8

@@ -1,4 +1,4 @@
-// Sync.
+// Sync: a repeat, a cycle that does not fit, or an accepted one, which may lead to RUN.
 ghost use mathlib.Core.Path.{_≡_};
 ghost use Prim.Native.Nat.{_^_, _<_};
 ghost use Rattle.rules.specs.Sync.{isRepeat, cycleFits, heardSync, synced, onSync};

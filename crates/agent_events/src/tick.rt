@@ -1,4 +1,4 @@
-// Tick.
+// Tick: the counters, then the two limits, then the end of the cycle.
 ghost use mathlib.Core.Path.{_≡_};
 ghost use Prim.Native.Nat.{_+_, _<_};
 ghost use lib.Dec.{eqb, ltb};

@@ -8,13 +8,21 @@ use borrow.Author.Tests.{le-leb, lt-leb}
 use lib.Bits.{bitAnd}
 use lib.Dec.{eqb, leb, ltb}
 use lib.ListN.{getD}
-use Rattle.rules.specs.Fallback.{released}
-use Rattle.rules.specs.Registers.{outRep, statut, outputsAt}
+use Rattle.rules.specs.Assignments.{assignable}
+use Rattle.rules.specs.Fallback.{released, withheld}
+use Rattle.rules.specs.Registers.{typAt, tidAt, outRep, statut, outputsAt}
 use Rattle.rules.specs.Requests.{mostTaken}
 use Rattle.rules.specs.Sound.{settingsSound, sourcesSound, countersSound, outputsZero, runSound, fallbackSound, sound}
 use Rattle.rules.specs.Sources.{distinct, below24, isRecorded, sidOf}
 use Rattle.rules.specs.State.{inRun, inFallback, isHeard, unheard, nobody, reg, tOf, nOf, mOf}
 use Rattle.rules.specs.declared.Agent.{Agent}
+
+pub settings-law : (a : Agent) (free : Bool) → free ≡ assignable (reg a tidAt)
+    → (not (eqb (tOf a) 0) && not (eqb (nOf a) 0) && not (eqb (mOf a) 0) && (eqb (reg a outRep) released || eqb (reg a outRep) withheld)
+    && (eqb (reg a tidAt) 0x8F || free) && eqb (reg a typAt) 0x82)
+    ≡ settingsSound a
+unfolding settingsSound
+settings-law a free p = rw p
 
 pub sources-law : (a : Agent) (apart below : Bool) (sid : ℕ) → a .count ≤ 8 → apart ≡ distinct (a .known) (a .count) → below ≡ below24 (a .known) (a .count) → sid ≡ sidOf a
     → (apart && below && Bool·beq (eqb (a .count) 0) (eqb sid nobody)) ≡ sourcesSound a

@@ -1,5 +1,5 @@
-// The parts of the agent's state and what is done to each: registers, marks, recorded concentrators, modes, soundness.
-// One function a rule, as in `rules`; only the crates of the agent call them.
+// The parts of the agent's state and what is done to each: registers, TID, marks, recorded concentrators, modes, soundness.
+// One function for each rule, as in `rules`. Only the crates of the agent call these.
 pub mod answers;
 pub mod fallback;
 pub mod marks;
@@ -7,3 +7,4 @@ pub mod registers;
 pub mod sound;
 pub mod sources;
 pub mod state;
+pub mod tid;

@@ -21,8 +21,11 @@ use crate::sources::sid_of;
 use crate::state::IN_FALLBACK;
 use crate::state::IN_RUN;
 use crate::state::IS_HEARD;
+use crate::state::MOST_TAKEN;
 use crate::state::NOBODY;
 use crate::state::UNHEARD;
+use crate::tid::UNASSIGNED;
+use crate::tid::assignable;
 use rules::Agent;
 
 // t, n, m are not 0, OUT_REP is 55h or AAh, TID is 8Fh or assignable, TYP is 82h.
@@ -31,11 +34,12 @@ fn settings_sound(a: Agent) -> bool
 {
     let release = a.regs[OUT_REP];
     let tid = a.regs[TID];
+    let free = assignable(tid);
     (a.regs[TCYC] != 0)
         & (a.regs[CNF_CYC] != 0)
         & (a.regs[CNF_REP] != 0)
         & ((release == RELEASED) | (release == WITHHELD))
-        & ((tid == 0x8F) | (((0x01 <= tid) & (tid <= 0x8E)) & !((tid == 0x7D) | (tid == 0x7E))))
+        & ((tid == UNASSIGNED) | free)
         & (a.regs[TYP] == 0x82)
 }
 
@@ -61,7 +65,7 @@ fn counters_sound(a: Agent) -> bool
     ensures { λ r. ⌜ r ≡ countersSound a ⌝ }
 {
     let known = is_recorded(a, a.last);
-    (a.taken <= 64)
+    (a.taken <= MOST_TAKEN)
         & (a.elapsed <= 254)
         & (known | ((a.last == NOBODY) & (a.heard == UNHEARD)))
         & ((a.heard == IS_HEARD) | (a.heard == UNHEARD))

@@ -88,10 +88,6 @@ pub byte-bits : (b : ℕ) → Bits (byteBits b)
 unfolding bitsOf byteBits
 byte-bits b = bits-bits (b ∷ [])
 
-pub byte-bits-length : (b : ℕ) → length (byteBits b) ≡ 8
-unfolding byteBits
-byte-bits-length b = refl
-
 -- the bits of a byte say the byte
 pub byte-number : (b : ℕ) → b < 256 → bitsNumber (byteBits b) ≡ b
 unfolding bitsNumber byteBits

@@ -4,7 +4,7 @@ use mathlib.Core.Path.{_≡_, refl, sym, ap, ap₂, _∙_}
 use mathlib.Core.List.{List, [], _∷_, _++_, append-assoc}
 use Prim.Native.Nat.{ℕ, zero, suc, _+_, _*_, _/_, _%_, _^_, _≤_, _<_}
 use native.Mathlib.Omega.{arith}
-use native.Mathlib.Nat.{zero-add, add-assoc, add-zero, pow-suc, pow-le-pow-right, mod-eq-of-lt, div-add-mod'}
+use native.Mathlib.Nat.{zero-add, add-assoc, pow-suc, pow-le-pow-right, div-add-mod'}
 use native.Mathlib.Numerals.{add-one}
 use lib.ListN.{length, take, drop, getD, length-append, length-drop, List·getD-append}
 use lib.Seq.{getD-append-add, getD-at, getD-drop, take-suc}
@@ -35,15 +35,6 @@ unfolding numberAt
 number-below s i zero h = omega arith
 number-below s i (suc w) h =
     rw add-one at (more-below w (numberAt s i w) (getD s (i + w) 0) (number-below s i w h) (h (i + w)))
-
--- a number of one byte is that byte
-pub number-one : (s : List ℕ) (i : ℕ) → numberAt s i 1 ≡ getD s i 0
-unfolding numberAt
-number-one s i = zero-add (getD s (i + 0) 0) ∙ ap (λ (k : ℕ). getD s k 0) (add-zero i)
-
-pub bytes-one : (n : ℕ) → n < 256 → bytesOf 1 n ≡ n ∷ []
-unfolding bytesOf
-bytes-one n h = ap (λ (b : ℕ). b ∷ []) (mod-eq-of-lt h)
 
 -- ---- where the bytes stand
 pub number-behind : (x y : List ℕ) (i w : ℕ) → numberAt (x ++ y) (length x + i) w ≡ numberAt y i w

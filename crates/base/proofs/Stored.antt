@@ -1,4 +1,5 @@
--- What stands in a list after a run of stores: before it, in it, behind it. Assumes nothing.
+-- What stands in a list after a run of stores: before it, in it, behind it. In the run the list may end before the run
+-- does. Assumes nothing.
 use mathlib.Core.Path.{_≡_, refl, sym, ap, _∙_}
 use mathlib.Core.List.{List, [], _∷_}
 use Prim.Native.Nat.{ℕ, zero, suc, _+_, _-_, _≤_, _<_}
@@ -18,20 +19,30 @@ stored-behind l i [] j h = refl
 stored-behind l i (v ∷ vs) j h =
     stored-behind (set l i v) (suc i) vs j (omega arith) ∙ getD-set-other l i j v 0 (λ e. omega arith)
 
-pub stored-at : (l : List ℕ) (i : ℕ) (vs : List ℕ) (k : ℕ) → k < length vs → i + length vs ≤ length l → getD (sets l i vs) (i + k) 0 ≡ getD vs k 0
-stored-at l i [] k h f = absurd (omega arith)
-stored-at l i (v ∷ vs) zero h f =
+stored-kth : (l : List ℕ) (i : ℕ) (vs : List ℕ) (k : ℕ) → k < length vs → i + k < length l → getD (sets l i vs) (i + k) 0 ≡ getD vs k 0
+stored-kth l i [] k h f = absurd (omega arith)
+stored-kth l i (v ∷ vs) zero h f =
     ap (λ (n : ℕ). getD (sets (set l i v) (suc i) vs) n 0) (add-zero i)
     ∙ stored-before (set l i v) (suc i) vs i (omega arith) ∙ getD-set-same l i v 0 (omega arith)
-stored-at l i (v ∷ vs) (suc k) h f =
+stored-kth l i (v ∷ vs) (suc k) h f =
     ap (λ (n : ℕ). getD (sets (set l i v) (suc i) vs) n 0) (add-suc i k ∙ sym (suc-add i k))
-    ∙ stored-at (set l i v) (suc i) vs k (omega arith) (omega (arith, length-set l i v))
+    ∙ stored-kth (set l i v) (suc i) vs k (omega arith) (omega (arith, length-set l i v))
 
--- by the place itself
-pub stored-in : (l : List ℕ) (i : ℕ) (vs : List ℕ) (j : ℕ) → i ≤ j → j < i + length vs → i + length vs ≤ length l → getD (sets l i vs) j 0 ≡ getD vs (j - i) 0
-stored-in l i vs j p q f =
+pub stored-at : (l : List ℕ) (i : ℕ) (vs : List ℕ) (k : ℕ) → k < length vs → i + length vs ≤ length l
+    → getD (sets l i vs) (i + k) 0 ≡ getD vs k 0
+stored-at l i vs k h f = stored-kth l i vs k h (omega arith)
+
+-- by the place itself, which is in the list
+pub stored-reached : (l : List ℕ) (i : ℕ) (vs : List ℕ) (j : ℕ) → i ≤ j → j - i < length vs → j < length l
+    → getD (sets l i vs) j 0 ≡ getD vs (j - i) 0
+stored-reached l i vs j p q f =
     let e : j ≡ i + (j - i) = omega arith in
-    ap (λ (n : ℕ). getD (sets l i vs) n 0) e ∙ stored-at l i vs (j - i) (omega arith) f
+    ap (λ (n : ℕ). getD (sets l i vs) n 0) e ∙ stored-kth l i vs (j - i) q (omega arith)
+
+-- and where the whole run is
+pub stored-in : (l : List ℕ) (i : ℕ) (vs : List ℕ) (j : ℕ) → i ≤ j → j < i + length vs → i + length vs ≤ length l
+    → getD (sets l i vs) j 0 ≡ getD vs (j - i) 0
+stored-in l i vs j p q f = stored-reached l i vs j p (omega arith) (omega arith)
 
 set-bytes : (l : List ℕ) (i v : ℕ) → v < 256 → Bytes l → Bytes (set l i v)
 set-bytes [] i v h b j = b j

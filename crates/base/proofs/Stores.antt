@@ -1,7 +1,7 @@
 -- Stores that fill a part of a list one after the other, as loops make them. Assumes nothing.
-use mathlib.Core.Path.{_≡_, refl, sym, ap, ap₂, _∙_}
+use mathlib.Core.Path.{_≡_, sym, ap, ap₂, _∙_}
 use mathlib.Core.List.{List, [], _∷_, _++_}
-use Prim.Native.Nat.{ℕ, zero, suc, _+_, _/_, _%_, _≤_, _<_}
+use Prim.Native.Nat.{ℕ, suc, _+_, _/_, _%_, _≤_, _<_}
 use native.Mathlib.Omega.{arith}
 use native.Mathlib.Nat.{add-zero, add-suc, suc-add, add-assoc}
 use native.Mathlib.Numerals.{add-one}
@@ -9,7 +9,6 @@ use lib.ListN.{length, drop, getD, set, drop-of-length-le}
 use lib.Seq.{sets, set-comm, drop-cons}
 use Rattle.base.specs.Bytes.{bytesOf}
 use Rattle.base.proofs.Numbers.{length-bytesOf}
-use Rattle.base.proofs.Sets.{sets-append}
 
 -- a store behind a run may come before it
 pub store-behind : (l : List ℕ) (i : ℕ) (xs : List ℕ) (y : ℕ) → sets (set l (i + length xs) y) i xs ≡ sets l i (xs ++ (y ∷ []))

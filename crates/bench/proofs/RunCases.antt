@@ -21,7 +21,7 @@ use Rattle.rules.specs.Tick.{counted, limited, cycleEnded, ticked}
 use Rattle.rules.specs.Writes.{spanAt, spanOf, onWrite}
 use Rattle.rules.specs.declared.Agent.{Agent}
 use Rattle.rules.proofs.LaidServed.{Layable}
-use Rattle.bench.specs.Cases.{start, InRun, onTime, asked, Says′, p9, p10, p11, p12, p13, p14}
+use Rattle.bench.specs.Cases.{afterPrelude, InRun, onTime, asked, Says′, p9, p10, p11, p12, p13, p14}
 use Rattle.bench.specs.BusCalls.{ownSid, ownTid, concentrator, comes, syncs, seqOf, after, silent}
 use Rattle.bench.proofs.Acting.{acted, acts-at, sync-lays, read-lays, write-lays, after-comes, after-append}
 use Rattle.bench.proofs.Started.{ready, start-05, start-FF}
@@ -51,10 +51,10 @@ on-time (suc n) c h a =
     ∙ after-comes (sync-lays (suc c) (omega arith)) (onTime n (suc c)) (after (silent 10) a)
     ∙ on-time n (suc c) (omega arith) (acted 1 0xFF (Sync concentrator (suc c)) [] (after (silent 10) a) .agent)
 
-timely-then : (calls : List Call) → after (onTime 4 0x05 ++ calls) (start 0x04 0x05) ≡ after calls (timely 4 0x05 (ready 0x05))
+timely-then : (calls : List Call) → after (onTime 4 0x05 ++ calls) (afterPrelude 0x04 0x05) ≡ after calls (timely 4 0x05 (ready 0x05))
 timely-then calls =
-    after-append (onTime 4 0x05) calls (start 0x04 0x05)
-    ∙ ap (after calls) (on-time 4 0x05 (omega arith) (start 0x04 0x05) ∙ ap (timely 4 0x05) start-05)
+    after-append (onTime 4 0x05) calls (afterPrelude 0x04 0x05)
+    ∙ ap (after calls) (on-time 4 0x05 (omega arith) (afterPrelude 0x04 0x05) ∙ ap (timely 4 0x05) start-05)
 
 pub commands-49 : Says′ p10
 unfolding tickCall ticked counted limited cycleEnded enterFallback settingsSound sourcesSound countersSound outputsZero runSound fallbackSound sound holds distinct below24 isRecorded sidOf lowNumber powerRegs lowBytes sent sendFrame onSync syncReply synced heardSync cycleFits enterRun
@@ -62,7 +62,7 @@ commands-49 =
     (ap (λ (a : Agent). a .mode) (timely-then (silent 9)) ∙ refl, ap (λ (a : Agent). a .mode) (timely-then (silent 10)) ∙ refl)
 
 -- ---- P11
-nearly : after (silent 9) (start 0xFE 0xFF) ≡ after (silent 9) (ready 0xFF)
+nearly : after (silent 9) (afterPrelude 0xFE 0xFF) ≡ after (silent 9) (ready 0xFF)
 nearly = ap (after (silent 9)) start-FF
 
 pub wraps : Says′ p11
@@ -104,8 +104,8 @@ asked-acts (suc n) k a =
     after-comes (ask-lays k) (asked n (suc k)) a
     ∙ asked-acts n (suc k) (acted 1 ownTid (SafeRead ownSid concentrator 0x05 (seqOf 0x05 k) 1 typAt) [] a .agent)
 
-after-asked : (n : ℕ) → after (asked n 0) (start 0x04 0x05) ≡ requested n 0 (ready 0x05)
-after-asked n = asked-acts n 0 (start 0x04 0x05) ∙ ap (requested n 0) start-05
+after-asked : (n : ℕ) → after (asked n 0) (afterPrelude 0x04 0x05) ≡ requested n 0 (ready 0x05)
+after-asked n = asked-acts n 0 (afterPrelude 0x04 0x05) ∙ ap (requested n 0) start-05
 
 pub sixty-four : Says′ p14
 unfolding sent sendFrame onRequest onDistance distance readReply onWrite spanAt spanOf enterFallback settingsSound sourcesSound countersSound outputsZero runSound fallbackSound sound holds distinct below24 isRecorded sidOf lowNumber powerRegs lowBytes

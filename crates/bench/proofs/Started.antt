@@ -18,7 +18,7 @@ use Rattle.rules.specs.State.{inRun, isHeard, nobody}
 use Rattle.rules.specs.Sync.{cycleFits, heardSync, synced, onSync}
 use Rattle.rules.specs.Writes.{spanAt, spanOf, onWrite}
 use Rattle.rules.specs.declared.Agent.{Agent}
-use Rattle.bench.specs.Cases.{start}
+use Rattle.bench.specs.Cases.{afterPrelude}
 use Rattle.bench.specs.BusCalls.{module1, ownSid, ownTid, concentrator, seqOf}
 use Rattle.bench.proofs.Acting.{assignment-lays, sync-lays, write-lays, Coming, after-calls}
 
@@ -51,10 +51,10 @@ coming b c low high =
     ∷ record { port = 1; addr = 0xFF; f = Sync concentrator c; xs = []; on-port = refl; lays = sync-lays c high }
     ∷ []
 
-pub start-05 : start 0x04 0x05 ≡ ready 0x05
+pub start-05 : afterPrelude 0x04 0x05 ≡ ready 0x05
 unfolding onFirstSid onLaterSid onSid enterFallback enterRun powerRegs powerUp lowBytes lowNumber syncReply acknowledges sendFrame sent distance onDistance onRequest settingsSound sourcesSound countersSound outputsZero runSound fallbackSound sound holds distinct below24 isRecorded recorded sidOf cycleFits heardSync synced onSync spanAt spanOf onWrite
 start-05 = after-calls (coming 0x04 0x05 (omega arith) (omega arith)) module1 ∙ refl
 
-pub start-FF : start 0xFE 0xFF ≡ ready 0xFF
+pub start-FF : afterPrelude 0xFE 0xFF ≡ ready 0xFF
 unfolding onFirstSid onLaterSid onSid enterFallback enterRun powerRegs powerUp lowBytes lowNumber syncReply acknowledges sendFrame sent distance onDistance onRequest settingsSound sourcesSound countersSound outputsZero runSound fallbackSound sound holds distinct below24 isRecorded recorded sidOf cycleFits heardSync synced onSync spanAt spanOf onWrite
 start-FF = after-calls (coming 0xFE 0xFF (omega arith) (omega arith)) module1 ∙ refl

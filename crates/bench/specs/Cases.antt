@@ -24,8 +24,8 @@ use Rattle.bench.specs.BusCalls.{module1, ownSid, concentrator, assigns,
 abbrev pub prelude : ℕ → ℕ → List Call
 prelude b c = assigns ∷ syncs b ∷ writesTo b 0 tcyc (0x0A ∷ []) ∷ writesTo b 1 outRep (0x55 ∷ []) ∷ syncs c ∷ []
 
-abbrev pub start : ℕ → ℕ → Agent
-start b c = after (prelude b c) module1
+abbrev pub afterPrelude : ℕ → ℕ → Agent
+afterPrelude b c = after (prelude b c) module1
 
 -- in RUN, t 10, n 2, m 5, the cycle heard, with a CYC, and e ms gone of it
 pub record InRun (c e : ℕ) (a : Agent) : Type 0 where
@@ -68,27 +68,28 @@ Says′ p7 = crcOf Fcs (0x31 ∷ 0x32 ∷ 0x33 ∷ 0x34 ∷ 0x35 ∷ 0x36 ∷ 0x
 Says′ p8 = (mac iid ver : ℕ) → after (silent 255) (powerUp mac iid ver) .cycle ≡ 0x01
 -- t 10, n 2, m 5: RUN after 19 silent ticks, fallback at the 20th
 Says′ p9 =
-    InRun 0x05 0 (start 0x04 0x05)
-    × (after (silent 19) (start 0x04 0x05) .mode ≡ inRun)
-    × (after (silent 20) (start 0x04 0x05) .mode ≡ inFallback)
+    InRun 0x05 0 (afterPrelude 0x04 0x05)
+    × (after (silent 19) (afterPrelude 0x04 0x05) .mode ≡ inRun)
+    × (after (silent 20) (afterPrelude 0x04 0x05) .mode ≡ inFallback)
 -- from there, syncs on time, no output write: RUN at 49, fallback at 50
 Says′ p10 =
-    (after (onTime 4 0x05 ++ silent 9) (start 0x04 0x05) .mode ≡ inRun)
-    × (after (onTime 4 0x05 ++ silent 10) (start 0x04 0x05) .mode ≡ inFallback)
+    (after (onTime 4 0x05 ++ silent 9) (afterPrelude 0x04 0x05) .mode ≡ inRun)
+    × (after (onTime 4 0x05 ++ silent 10) (afterPrelude 0x04 0x05) .mode ≡ inFallback)
 -- RUN, heard c FFh, e = t − 1: CYC 00h accepted, 01h is 12
 Says′ p11 =
-    InRun 0xFF 9 (after (silent 9) (start 0xFE 0xFF))
-    × (act (after (silent 9) (start 0xFE 0xFF)) (syncs 0x00) .answer ≡ 0)
-    × (act (after (silent 9) (start 0xFE 0xFF)) (syncs 0x01) .answer ≡ 12)
+    InRun 0xFF 9 (after (silent 9) (afterPrelude 0xFE 0xFF))
+    × (act (after (silent 9) (afterPrelude 0xFE 0xFF)) (syncs 0x00) .answer ≡ 0)
+    × (act (after (silent 9) (afterPrelude 0xFE 0xFF)) (syncs 0x01) .answer ≡ 12)
 -- RUN: one byte at BFh accepted, two are 16
 Says′ p12 =
-    (act (start 0x04 0x05) (writesTo 0x05 0 0xBF (0xA5 ∷ [])) .answer ≡ 0)
-    × (act (start 0x04 0x05) (writesTo 0x05 0 0xBF (0xA5 ∷ 0x5A ∷ [])) .answer ≡ 16)
+    (act (afterPrelude 0x04 0x05) (writesTo 0x05 0 0xBF (0xA5 ∷ [])) .answer ≡ 0)
+    × (act (afterPrelude 0x04 0x05) (writesTo 0x05 0 0xBF (0xA5 ∷ 0x5A ∷ [])) .answer ≡ 16)
 -- reading 254 from 02h is served, 255 from 00h is error 55h
 Says′ p13 =
-    (act (start 0x04 0x05) (asksFor 0x05 0 254 0x02) .line ≡ frameLine 0xF0 (SafeResponse concentrator ownSid 0x05 0xFC 0x70 254 0x02 0x00) (take 254 (drop 0x02 (start 0x04 0x05 .regs))))
-    × (act (start 0x04 0x05) (asksFor 0x05 0 255 0x00) .line ≡ frameLine 0xF0 (SafeResponse concentrator ownSid 0x05 0xFC 0x55 0 0x00 0x00) [])
+    (act (afterPrelude 0x04 0x05) (asksFor 0x05 0 254 0x02) .line
+    ≡ frameLine 0xF0 (SafeResponse concentrator ownSid 0x05 0xFC 0x70 254 0x02 0x00) (take 254 (drop 0x02 (afterPrelude 0x04 0x05 .regs))))
+    × (act (afterPrelude 0x04 0x05) (asksFor 0x05 0 255 0x00) .line ≡ frameLine 0xF0 (SafeResponse concentrator ownSid 0x05 0xFC 0x55 0 0x00 0x00) [])
 -- the 64th request is taken, the 65th is 15
 Says′ p14 =
-    (act (after (asked 63 0) (start 0x04 0x05)) (asksFor 0x05 63 1 typAt) .answer ≡ 0)
-    × (act (after (asked 64 0) (start 0x04 0x05)) (asksFor 0x05 64 1 typAt) .answer ≡ 15)
+    (act (after (asked 63 0) (afterPrelude 0x04 0x05)) (asksFor 0x05 63 1 typAt) .answer ≡ 0)
+    × (act (after (asked 64 0) (afterPrelude 0x04 0x05)) (asksFor 0x05 64 1 typAt) .answer ≡ 15)

@@ -1,8 +1,8 @@
--- A body that is taken ends with its right FCS, so damage that the CRC sees is refused. Assumes nothing.
+-- A body that is read ends with its right FCS, so damage that the CRC sees is refused. Assumes nothing.
 use mathlib.Core.Path.{_≡_, refl, sym, ap, _∙_}
 use mathlib.Core.List.{List, [], _∷_, _++_}
-use mathlib.Core.Option.{Option, some, Option·some-injective}
-use Prim.Native.Nat.{ℕ, _*_, _+_, _/_, _%_}
+use mathlib.Core.Option.{Option·some-injective}
+use Prim.Native.Nat.{ℕ, _+_, _/_, _%_}
 use native.Mathlib.Omega.{arith}
 use lib.ListN.{drop, getD, take}
 use Rattle.base.specs.Bytes.{Bytes}
@@ -11,12 +11,11 @@ use Rattle.crc.specs.Crc.{crcOf}
 use Rattle.crc.specs.declared.Poly.the-variants.{Fcs}
 use Rattle.wire.specs.Stuffing.{stuff, unstuff}
 use Rattle.wire.specs.Body.{fcsOf, readBody}
-use Rattle.wire.specs.Laying.{bodyWith, bodyOf}
-use Rattle.wire.specs.declared.body.Body.{Body}
+use Rattle.wire.specs.Laying.{bodyWith}
 use Rattle.wire.specs.declared.body.Verdict.the-variants.{Taken}
 use Rattle.wire.proofs.StuffingBothWays.{unstuff-stuff}
 use Rattle.wire.proofs.LineBytes.{stuffed-bytes}
-use Rattle.wire.proofs.BodyBothWays.{Exact, read-then-laid}
+use Rattle.wire.proofs.BodyBothWays.{read-then-laid}
 use Rattle.burst.specs.Promise.{Checked}
 use Rattle.burst.specs.OnTheLine.{OnTheLine, plain}
 use Rattle.burst.proofs.Both.{bus-bursts, bus-odd}
@@ -30,11 +29,11 @@ checked-plain a xs =
 unstuffed-same : (xs ys : List ℕ) → stuff xs ≡ stuff ys → xs ≡ ys
 unstuffed-same xs ys e = Option·some-injective xs ys (sym (unstuff-stuff xs) ∙ ap unstuff e ∙ unstuff-stuff ys)
 
--- what is taken is the body of its address and data
-taken-plain : (b : ℕ) (ys : List ℕ) → Bytes (b ∷ ys) → readBody (b ∷ stuff ys) .verdict ≡ Taken
+-- what is read is the body of its address and data
+read-plain : (b : ℕ) (ys : List ℕ) → Bytes (b ∷ ys) → readBody (b ∷ stuff ys) .verdict ≡ Taken
     → b ∷ ys ≡ plain (readBody (b ∷ stuff ys) .addr) (take (readBody (b ∷ stuff ys) .len) (readBody (b ∷ stuff ys) .bytes))
 unfolding bodyWith
-taken-plain b ys h t =
+read-plain b ys h t =
     let r = readBody (b ∷ stuff ys) in
     let xs = take (r .len) (r .bytes) in
     let f = fcsOf (r .addr) xs in
@@ -43,14 +42,14 @@ taken-plain b ys h t =
     let rest : stuff ys ≡ stuff (xs ++ (f / 256 ∷ f % 256 ∷ [])) = ap (drop 1) e in
     ap (λ (n : ℕ). n ∷ ys) first ∙ ap (λ (l : List ℕ). r .addr ∷ l) (unstuffed-same ys (xs ++ (f / 256 ∷ f % 256 ∷ [])) rest)
 
-checked-taken : (b : ℕ) (ys : List ℕ) → Bytes (b ∷ ys) → readBody (b ∷ stuff ys) .verdict ≡ Taken → Checked (crcOf Fcs) (b ∷ ys)
-checked-taken b ys h t =
+checked-read : (b : ℕ) (ys : List ℕ) → Bytes (b ∷ ys) → readBody (b ∷ stuff ys) .verdict ≡ Taken → Checked (crcOf Fcs) (b ∷ ys)
+checked-read b ys h t =
     let r = readBody (b ∷ stuff ys) in
     let c = checked-plain (r .addr) (take (r .len) (r .bytes)) in
-    record { covered = c .covered; high = c .high; low = c .low; made = taken-plain b ys h t ∙ c .made; right = c .right }
+    record { covered = c .covered; high = c .high; low = c .low; made = read-plain b ys h t ∙ c .made; right = c .right }
 
 pub on-the-line : OnTheLine
 on-the-line = record {
-  burst = λ i a b xs ys h g d t. bus-bursts Fcs .in-frame i (plain a xs) (b ∷ ys) h g d (checked-plain a xs) (checked-taken b ys g t);
-  odd = λ a b xs ys h g n d t. bus-odd Fcs .in-frame (plain a xs) (b ∷ ys) h g n d (checked-plain a xs) (checked-taken b ys g t);
+  burst = λ i a b xs ys h g d t. bus-bursts Fcs .in-frame i (plain a xs) (b ∷ ys) h g d (checked-plain a xs) (checked-read b ys g t);
+  odd = λ a b xs ys h g n d t. bus-odd Fcs .in-frame (plain a xs) (b ∷ ys) h g n d (checked-plain a xs) (checked-read b ys g t);
 }

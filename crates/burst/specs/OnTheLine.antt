@@ -17,9 +17,9 @@ plain a xs = a ∷ (xs ++ (fcsOf a xs / 256 ∷ fcsOf a xs % 256 ∷ []))
 
 -- sent for address a and data xs; what came in its place is address b and, unstuffed, ys
 pub record OnTheLine : Type 0 where
-  -- a burst: only where nothing was changed is the body taken
+  -- a burst: only where nothing was changed is the body read
   pub burst : (i a b : ℕ) (xs ys : List ℕ) → Bytes (plain a xs) → Bytes (b ∷ ys) → Burst longest i (plain a xs) (b ∷ ys)
       → readBody (b ∷ stuff ys) .verdict ≡ Taken → plain a xs ≡ b ∷ ys
-  -- an odd number of flipped bits: it is not taken
+  -- an odd number of flipped bits: it is not read
   pub odd : (a b : ℕ) (xs ys : List ℕ) → Bytes (plain a xs) → Bytes (b ∷ ys) → length (plain a xs) ≡ length (b ∷ ys)
       → flips (plain a xs) (b ∷ ys) % 2 ≡ 1 → readBody (b ∷ stuff ys) .verdict ≡ Taken → ⊥

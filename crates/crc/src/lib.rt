@@ -1,7 +1,7 @@
 // The two CRCs of the bus: the frame check sequence (FCS) and the safety CRC. Both start at FFFFh, take the most
 // significant bit first and have no final change.
 ghost use mathlib.Core.Path.{_≡_};
-ghost use Rattle.crc.specs.Crc.{polyOf, crcBit, crcByte, crcFrom, crcOf, start};
+ghost use Rattle.crc.specs.Crc.{polyOf, crcBit, crcByte, crcFrom, crcOf};
 
 // The two polynomials.
 pub enum Poly {

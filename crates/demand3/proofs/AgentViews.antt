@@ -18,8 +18,8 @@ use Rattle.rules.specs.Sources.{recorded}
 use Rattle.rules.specs.State.{reg, tOf, nOf, mOf, withIdle, store, storeAll}
 use Rattle.rules.specs.declared.Agent.{Agent}
 use Rattle.rules.proofs.MarkSteps.{Marks, none, counts}
+use Rattle.rules.proofs.LowBytes.{low-stored, low-same}
 use Rattle.demand3.proofs.Effects.{commanded, fallen, runs, limits, releases, outputs, named}
-use Rattle.demand3.proofs.LowNumbers.{low-number-same, low-number-stored}
 use Rattle.demand3.proofs.RegisterViews.{Apart, apart-same, apart-status, apart-middle}
 use Rattle.demand3.proofs.StoredPlaces.{stored-outside, stored-choice}
 use Rattle.demand3.proofs.Views.{Registers, View, registersOf, viewOf, SameRegisters, Agree}
@@ -95,7 +95,7 @@ fallback-view a size =
       m = before cnfRep (omega arith) ∙ other cnfRep (λ e. omega arith) ∙ same .m;
       out = λ i h. stored-in u outputsAt zeros (outputsAt + i) (omega arith) (omega arith) (omega arith)
           ∙ getD-replicate {A = ℕ} image (outputsAt + i - outputsAt) 0 0 (omega arith);
-      sid = low-number-same s (sets u outputsAt zeros) sidAt 3 (λ j p q. before j (omega arith) ∙ other j (λ e. omega arith)) ∙ same .sid;
+      sid = low-same s (sets u outputsAt zeros) sidAt 3 (λ j p q. before j (omega arith) ∙ other j (λ e. omega arith)) ∙ same .sid;
     })
 
 fallen-agree : {v w : View} → Agree v w → Agree (fallen v) (fallen w)
@@ -126,7 +126,7 @@ release-view a i xs size at one e =
       n = other cnfCyc (λ e. omega arith);
       m = other cnfRep (λ e. omega arith);
       out = λ j h. other (outputsAt + j) (λ e. omega arith);
-      sid = low-number-same r (sets r i xs) sidAt 3 (λ j p q. other j (λ e. omega arith));
+      sid = low-same r (sets r i xs) sidAt 3 (λ j p q. other j (λ e. omega arith));
     })
 
 pub limits-view : (a : Agent) (i : ℕ) (xs : List ℕ) → 0x18 ≤ i → i + length xs ≤ 0x80
@@ -139,7 +139,7 @@ limits-view a i xs low high =
       n = refl;
       m = refl;
       out = λ j h. stored-outside r i xs (outputsAt + j) (λ p q. omega arith);
-      sid = low-number-same r (sets r i xs) sidAt 3 (λ j p q. stored-outside r i xs j (λ u v. omega arith));
+      sid = low-same r (sets r i xs) sidAt 3 (λ j p q. stored-outside r i xs j (λ u v. omega arith));
     })
 
 pub outputs-view : (a : Agent) (i : ℕ) (xs : List ℕ) → length (a .regs) ≡ 256 → 0x80 ≤ i → i + length xs ≤ 0xC0
@@ -152,7 +152,7 @@ outputs-view a i xs size low high =
       n = stored-outside r i xs cnfCyc (λ p q. omega arith);
       m = stored-outside r i xs cnfRep (λ p q. omega arith);
       out = λ j h. stored-choice r i xs (outputsAt + j) (omega arith);
-      sid = low-number-same r (sets r i xs) sidAt 3 (λ j p q. stored-outside r i xs j (λ u v. omega arith));
+      sid = low-same r (sets r i xs) sidAt 3 (λ j p q. stored-outside r i xs j (λ u v. omega arith));
     })
 
 -- ---- the first source recorded, with the SID, and a later one
@@ -172,7 +172,7 @@ named-view a src sid size small =
       n = other cnfCyc (omega arith);
       m = other cnfRep (omega arith);
       out = λ i h. other (outputsAt + i) (omega arith);
-      sid = low-number-stored r sidAt 3 sid (omega arith) small;
+      sid = low-stored r sidAt 3 sid small (omega arith);
     })
 
 pub recorded-view : (a : Agent) (src : ℕ) → eqb (a .count) 0 ≡ false → Agree (viewOf (recorded src a)) (viewOf a)

@@ -25,8 +25,8 @@ pub record Watchdog : Type 0 where
   pub rep : ℕ
   pub s : ℕ
 
-abbrev pub counted : ℕ → ℕ
-counted s = choose (ltb s silenceEnd) (s + 1) silenceEnd
+abbrev pub moreSilence : ℕ → ℕ
+moreSilence s = choose (ltb s silenceEnd) (s + 1) silenceEnd
 
 -- neither a tick nor a sync
 abbrev pub Quiet : Event → Type 0
@@ -49,8 +49,8 @@ pub record Below (v w : Watchdog) : Type 0 where
 
 -- what one call may do
 pub data MayDo (v : Watchdog) (ev : Event) (w : Watchdog) : Type 0 where
-  fellAtTick : ev ≡ aTick → w .s ≡ counted (v .s) → w .rep ≡ fallback.withheld → Safe (w .seen) → MayDo v ev w
-  tickedOn : ev ≡ aTick → w .s ≡ counted (v .s) → Below v w → Stays v w → MayDo v ev w
+  fellAtTick : ev ≡ aTick → w .s ≡ moreSilence (v .s) → w .rep ≡ fallback.withheld → Safe (w .seen) → MayDo v ev w
+  tickedOn : ev ≡ aTick → w .s ≡ moreSilence (v .s) → Below v w → Stays v w → MayDo v ev w
   heardOnly : (src cyc : ℕ) → ev ≡ aSync src cyc → w .s ≡ 0 → Stays v w → MayDo v ev w
   enteredRun : (src cyc : ℕ) → ev ≡ aSync src cyc → w .s ≡ 0 → v .seen .mode ≡ inFallback → v .rep ≡ fallback.released → w .seen .mode ≡ inRun → MayDo v ev w
   released : (r : Request) → ev ≡ aRequest r → ordersRelease (r .ask) ≡ true → w .s ≡ v .s → w .seen .mode ≡ v .seen .mode → MayDo v ev w
@@ -92,7 +92,7 @@ record Entered (h : History) (e : Entry) : Type 0 where
 not-both : (m : ℕ) → m ≡ inRun → m ≡ inFallback → ⊥
 not-both m p q = omega arith
 
-counts-on : (s x : ℕ) → s ≡ min x silenceEnd → counted s ≡ min (x + 1) silenceEnd
+counts-on : (s x : ℕ) → s ≡ min x silenceEnd → moreSilence s ≡ min (x + 1) silenceEnd
 counts-on s x e =
     by-test (λ (y : ℕ). y ≡ min (x + 1) silenceEnd) (ltb s silenceEnd)
     (λ p. omega (arith, ltb-true s silenceEnd p)) (λ p. omega (arith, ltb-false s silenceEnd p))
@@ -146,7 +146,7 @@ module _ (h : History) (v w : Watchdog) (l : Link h v) (call : Call) (n : ℕ) (
   quiet-silent : Quiet ev → w .s ≡ v .s → w .s ≡ min (silence (h ▸ this)) silenceEnd
   quiet-silent q s = rw (quiet-silence ev (silence h) q) (s ∙ l .silent)
 
-  module _ (e : ev ≡ aTick) (s : w .s ≡ counted (v .s)) where
+  module _ (e : ev ≡ aTick) (s : w .s ≡ moreSilence (v .s)) where
     tick-silent : w .s ≡ min (silence (h ▸ this)) silenceEnd
     tick-silent = rw e (s ∙ counts-on (v .s) (silence h) (l .silent))
 

@@ -27,7 +27,7 @@ use Rattle.rules.specs.Writes.{spanOf, allowed, written}
 use Rattle.rules.specs.declared.Agent.{Agent}
 use Rattle.rules.specs.declared.Deed.{Deed}
 use Rattle.rules.specs.declared.Span.{Span}
-use Rattle.rules.proofs.Cases.{isHosts, Accepts, heard, read, wrote, renamed, first, again, later, KindCase, refuses, fell, outside, accepts, FrameCase, unread, taken, CallCase, unsoundly, hosts, ticks, stores, frames, call-case}
+use Rattle.rules.proofs.Cases.{isHosts, Accepts, heard, read, wrote, renamed, first, again, later, KindCase, refuses, fell, outside, accepts, FrameCase, unread, readAs, CallCase, unsoundly, hosts, ticks, stores, frames, call-case}
 use Rattle.demand3.specs.Events.{aTick, eventOf}
 use Rattle.demand3.specs.Numbers.{isAccepted, accepted, outsideRules}
 use Rattle.demand3.proofs.AgentViews.{agree-refl, apart-view, named-view, recorded-view}
@@ -82,7 +82,7 @@ module _ {a : Agent} (good : Good a) where
         → ((f : Frame) → readBody body .verdict ≡ verdict.Taken → readOf body ≡ Taken f → Carries call f (dataIn f (appIn (readBody body))))
         → FrameCase a body d → Shown a call d
     frame-did {body = body} u c (unread n h) = refused u (readsSync (readOf body) && running a) n h
-    frame-did u c (taken f v e k) = kind-did u (c f v e) k
+    frame-did u c (readAs f v e k) = kind-did u (c f v e) k
 
   -- ---- the calls
   call-did : {call : Call} {o : Outcome} → BytesCall call → NoTick call → CallCase a call o → Step a (told call) o

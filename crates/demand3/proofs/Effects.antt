@@ -61,8 +61,8 @@ abbrev takenOne : Cycle → Cycle
 takenOne y = record { last = y .last; heard = y .heard; c = y .c; k = y .k + 1 }
 
 -- one tick, in that mode
-abbrev counted : ℕ → Clocks → Clocks
-counted mode x = record { s = choose (ltb (x .s) silenceEnd) (x .s + 1) silenceEnd; q = choose (eqb mode inRun) (x .q + 1) (x .q) }
+abbrev clocksOn : ℕ → Clocks → Clocks
+clocksOn mode x = record { s = choose (ltb (x .s) silenceEnd) (x .s + 1) silenceEnd; q = choose (eqb mode inRun) (x .q + 1) (x .q) }
 
 abbrev withRegisters : Registers → View → View
 withRegisters r v = record { mode = v .mode; assigned = v .assigned; registers = r; cycle = v .cycle; clocks = v .clocks }
@@ -78,7 +78,7 @@ abbrev pub fallen : View → View
 fallen v = record { mode = inFallback; assigned = v .assigned; registers = cold (v .registers); cycle = v .cycle; clocks = commanded (v .clocks) }
 
 abbrev pub countedOn : View → View
-countedOn v = withClocks (counted (v .mode) (v .clocks)) v
+countedOn v = withClocks (clocksOn (v .mode) (v .clocks)) v
 
 abbrev pub nextCycle : View → View
 nextCycle v = withCycle (nextOne (v .cycle)) v

@@ -1,15 +1,13 @@
 pub mod StoredPlaces
 pub mod Views
 pub mod Effects
-pub mod LowNumbers
 pub mod RegisterViews
 pub mod AgentViews
-pub mod SoundFacts
+pub mod ViewFacts
 pub mod FrameEvents
 pub mod Steps
 pub mod TickDid
 pub mod SyncDid
-pub mod Spans
 pub mod SameNumbers
 pub mod WriteDid
 pub mod RequestDid

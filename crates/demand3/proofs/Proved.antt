@@ -22,7 +22,7 @@ use Rattle.demand3.proofs.CallDid.{step-did}
 use Rattle.demand3.proofs.Deposed.{sharper}
 use Rattle.demand3.proofs.Device.{HistoryOf, start, step}
 use Rattle.demand3.proofs.SafeModules.{StartsSafe, safeModule, holds}
-use Rattle.demand3.proofs.SoundFacts.{good-facts}
+use Rattle.demand3.proofs.ViewFacts.{good-facts}
 use Rattle.demand3.proofs.Views.{viewOf}
 
 start-rep : (mac iid ver : ℕ) → getD (powerRegs mac iid ver) outRep 0 ≡ withheld

@@ -40,22 +40,22 @@ begins mac iid ver a e =
 -- a call continues it
 module _ (h : History) (a : Agent) (r : Reached h a) (call : Call) (is-bytes : BytesCall call) (answer : ℕ) (b : Agent)
     (does : Answers (act a call) answer b) where
-  abbrev start : Agent
-  start = powerUp (r .mac) (r .iid) (r .ver)
+  abbrev fresh : Agent
+  fresh = powerUp (r .mac) (r .iid) (r .ver)
 
   abbrev end : Agent
-  end = agentAfter start (r .calls)
+  end = agentAfter fresh (r .calls)
 
-  same-history : history start powerOn (r .calls ++ (call ∷ [])) ≡ h ▸ entryOf a call answer b
+  same-history : history fresh powerOn (r .calls ++ (call ∷ [])) ≡ h ▸ entryOf a call answer b
   same-history =
-      history-more start powerOn (r .calls) call
+      history-more fresh powerOn (r .calls) call
       ∙ ap (λ (g : History). g ▸ entry end call (act end call)) (r .is-history)
       ∙ ap (λ (c : Agent). h ▸ entry c call (act c call)) (r .is-agent)
       ∙ ap (λ (n : ℕ). h ▸ entryOf a call n (act a call .agent)) (sym (does .0))
       ∙ ap (λ (c : Agent). h ▸ entryOf a call answer c) (sym (does .1))
 
-  same-agent : agentAfter start (r .calls ++ (call ∷ [])) ≡ b
-  same-agent = after-more start (r .calls) call ∙ ap (λ (c : Agent). act c call .agent) (r .is-agent) ∙ sym (does .1)
+  same-agent : agentAfter fresh (r .calls ++ (call ∷ [])) ≡ b
+  same-agent = after-more fresh (r .calls) call ∙ ap (λ (c : Agent). act c call .agent) (r .is-agent) ∙ sym (does .1)
 
   reached-more : Reached (h ▸ entryOf a call answer b) b
   reached-more = record {

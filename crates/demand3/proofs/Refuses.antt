@@ -16,8 +16,8 @@ use Rattle.demand3.specs.Words.{AllDiffer, Released, ordered, still}
 abbrev pub shows : ℕ → ℕ → Seen
 shows mode x = record { mode = mode; out = λ i. x; t = 1; n = 1; m = 1 }
 
-abbrev pub ticked : Seen → Seen → Entry
-ticked x y = callEntry tick 0 x y
+abbrev pub tickEntry : Seen → Seen → Entry
+tickEntry x y = callEntry tick 0 x y
 
 is-tick : eventOf tick 0 ≡ aTick
 unfolding eventOf
@@ -32,19 +32,19 @@ tick-no-request r e = let z : _≡_ {A = ℕ} 0 1 = cc (is-tick) in omega arith
 -- ---- outputs
 
 -- a tick changes an output in RUN
-pub changed-by-tick : Holds (powerOn ▸ ticked (shows inRun 0) (shows inRun 7)) → ⊥
+pub changed-by-tick : Holds (powerOn ▸ tickEntry (shows inRun 0) (shows inRun 7)) → ⊥
 changed-by-tick h = by (h .outputs _ _ now)
   where
-    by : OutputsRight powerOn (ticked (shows inRun 0) (shows inRun 7)) → ⊥
+    by : OutputsRight powerOn (tickEntry (shows inRun 0) (shows inRun 7)) → ⊥
     by (same f) = omega (arith, f 0 (omega arith))
     by (fell f g) = omega (arith, f .to)
     by (written w) = let c = w .called in let z : _≡_ {A = ℕ} 0 1 = cc in omega arith
 
 -- a tick takes the module into fallback and changes the outputs, but not to zero
-pub left-not-zero : Holds (powerOn ▸ ticked (shows inRun 5) (shows inFallback 7)) → ⊥
+pub left-not-zero : Holds (powerOn ▸ tickEntry (shows inRun 5) (shows inFallback 7)) → ⊥
 left-not-zero h = by (h .outputs _ _ now)
   where
-    by : OutputsRight powerOn (ticked (shows inRun 5) (shows inFallback 7)) → ⊥
+    by : OutputsRight powerOn (tickEntry (shows inRun 5) (shows inFallback 7)) → ⊥
     by (same f) = omega (arith, f 0 (omega arith))
     by (fell f g) = omega (arith, g .zero 0 (omega arith))
     by (written w) = let c = w .called in let z : _≡_ {A = ℕ} 0 1 = cc in omega arith
@@ -65,11 +65,11 @@ taken-twice c d r q e f s h =
 -- ---- silence
 
 -- RUN goes on at the sync limit
-pub run-past-sync-limit : Holds (powerOn ▸ ticked (shows inRun 0) (shows inRun 0)) → ⊥
+pub run-past-sync-limit : Holds (powerOn ▸ tickEntry (shows inRun 0) (shows inRun 0)) → ⊥
 run-past-sync-limit h = omega (arith, h .bounded .sync-silence _ _ now record { tick = is-tick; limit = rw is-tick (omega arith) } .mode)
 
 -- at the sync limit, in fallback, outputs are not zero
-pub fallback-not-zero : Holds (powerOn ▸ ticked (shows inFallback 7) (shows inFallback 7)) → ⊥
+pub fallback-not-zero : Holds (powerOn ▸ tickEntry (shows inFallback 7) (shows inFallback 7)) → ⊥
 fallback-not-zero h = omega (arith, h .bounded .sync-silence _ _ now record { tick = is-tick; limit = rw is-tick (omega arith) } .zero 0 (omega arith))
 
 -- with the sync limit far off
@@ -77,13 +77,13 @@ abbrev slow : ℕ → ℕ → Seen
 slow mode x = record { mode = mode; out = λ i. x; t = 1; n = 200; m = 1 }
 
 -- RUN goes on at the other limit
-pub run-past-command-limit : Holds (powerOn ▸ ticked (slow inRun 7) (slow inRun 7)) → ⊥
+pub run-past-command-limit : Holds (powerOn ▸ tickEntry (slow inRun 7) (slow inRun 7)) → ⊥
 run-past-command-limit h = omega (arith, h .command-silence _ _ now record { tick = is-tick; run = refl; limit = rw is-tick (omega arith) } .mode)
 
 -- ---- entry to RUN
 
 -- by a tick
-pub run-by-tick : Holds (powerOn ▸ ticked (shows inFallback 0) (shows inRun 0)) → ⊥
+pub run-by-tick : Holds (powerOn ▸ tickEntry (shows inFallback 0) (shows inRun 0)) → ⊥
 run-by-tick h = let e = h .bounded .entry-to-run _ _ now record { from = refl; to = refl } in tick-no-sync (e .src) (e .cyc) (e .by-sync)
 
 -- with no release at all
@@ -95,28 +95,28 @@ run-without-release call h = no-release (h .bounded .entry-to-run _ _ now record
 
 -- with a tick at the sync limit behind the release
 pub release-before-limit : (order sync : Call)
-    → Holds (powerOn ▸ callEntry order 0 (shows inFallback 0) (shows inFallback 0) ▸ ticked (shows inFallback 0) (shows inFallback 0)
+    → Holds (powerOn ▸ callEntry order 0 (shows inFallback 0) (shows inFallback 0) ▸ tickEntry (shows inFallback 0) (shows inFallback 0)
     ▸ callEntry sync 0 (shows inFallback 0) (shows inRun 0)) → ⊥
 release-before-limit order sync h = by (h .bounded .entry-to-run _ _ now record { from = refl; to = refl } .released)
   where
-    by : Released (powerOn ▸ callEntry order 0 (shows inFallback 0) (shows inFallback 0) ▸ ticked (shows inFallback 0) (shows inFallback 0)) → ⊥
+    by : Released (powerOn ▸ callEntry order 0 (shows inFallback 0) (shows inFallback 0) ▸ tickEntry (shows inFallback 0) (shows inFallback 0)) → ⊥
     by (ordered r e o) = tick-no-request r e
     by (still r f g) = g record { tick = is-tick; limit = rw is-tick (omega arith) }
 
 -- with RUN left behind the release
 pub release-before-leaving : (order sync : Call)
-    → Holds (powerOn ▸ callEntry order 0 (slow inRun 0) (slow inRun 0) ▸ ticked (slow inRun 0) (slow inFallback 0)
+    → Holds (powerOn ▸ callEntry order 0 (slow inRun 0) (slow inRun 0) ▸ tickEntry (slow inRun 0) (slow inFallback 0)
     ▸ callEntry sync 0 (slow inFallback 0) (slow inRun 0)) → ⊥
 release-before-leaving order sync h = by (h .bounded .entry-to-run _ _ now record { from = refl; to = refl } .released)
   where
-    by : Released (powerOn ▸ callEntry order 0 (slow inRun 0) (slow inRun 0) ▸ ticked (slow inRun 0) (slow inFallback 0)) → ⊥
+    by : Released (powerOn ▸ callEntry order 0 (slow inRun 0) (slow inRun 0) ▸ tickEntry (slow inRun 0) (slow inFallback 0)) → ⊥
     by (ordered r e o) = tick-no-request r e
     by (still r f g) = f record { from = refl; to = refl }
 
 -- ---- modes and answers
 
 -- a third mode
-pub third-mode : Holds (powerOn ▸ ticked (shows inRun 0) (shows 2 0)) → ⊥
+pub third-mode : Holds (powerOn ▸ tickEntry (shows inRun 0) (shows 2 0)) → ⊥
 third-mode h = omega (arith, h .bounded .two-modes _ _ now (λ p. omega arith))
 
 -- an answer of 19

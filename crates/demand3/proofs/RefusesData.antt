@@ -6,16 +6,16 @@ use mathlib.Core.Path.{_≡_, refl, _∙_}
 use Prim.Native.Nat.{ℕ, zero, suc, _+_, _-_, _/_, _%_, _≤_, _<_}
 use native.Mathlib.Omega.{arith}
 use borrow.Author.Tests.{leb-true, leb-false}
-use lib.Dec.{eqb, leb}
+use lib.Dec.{leb}
 use lib.ListN.{length, getD, length-append}
 use Rattle.base.specs.Bytes.{bytesOf}
-use Rattle.base.proofs.Choosing.{by-test}
 use Rattle.crc.specs.Crc.{crcOf}
 use Rattle.crc.specs.declared.Poly.the-variants.{Safety}
 use Rattle.fields.specs.Fields.{laid}
 use Rattle.wire.specs.Laying.{bodyOf, bodyWith}
 use Rattle.wire.specs.Stuffing.{stuff, stuffByte}
 use Rattle.wire.specs.Body.{fcsOf}
+use Rattle.wire.proofs.StuffingLaws.{stuff-least}
 use Rattle.frames.specs.Kinds.{headOf, tailOf, appOf, sealed}
 use Rattle.frames.specs.declared.kinds.Frame.the-variants.{SafeWrite}
 use Rattle.rules.specs.Answers.{accepted}
@@ -48,17 +48,6 @@ unfolding stuff stuffByte
 among-stuffed here = here
 among-stuffed (there {y = y} a) = among-behind (stuffByte y) (among-stuffed a)
 
-one-or-two : (y : ℕ) → 1 ≤ length (stuffByte y)
-unfolding stuffByte
-one-or-two y =
-    by-test (λ (l : List ℕ). 1 ≤ length l) (eqb y 0x7E) (λ p. omega arith)
-    (λ p. by-test (λ (l : List ℕ). 1 ≤ length l) (eqb y 0x7D) (λ q. omega arith) (λ q. omega arith))
-
-stuffed-longer : (l : List ℕ) → length l ≤ length (stuff l)
-unfolding stuff
-stuffed-longer [] = omega arith
-stuffed-longer (y ∷ l) = omega (arith, length-append (stuffByte y) (stuff l), one-or-two y, stuffed-longer l)
-
 module _ (dest src cyc seq datl add : ℕ) (xs : List ℕ) where
   among-app : Among 7 xs → Among 7 (appOf (SafeWrite dest src cyc seq datl add) xs)
   unfolding appOf sealed
@@ -81,7 +70,7 @@ module _ (dest src cyc seq datl add : ℕ) (xs : List ℕ) where
   body-longer address =
       let app = appOf (SafeWrite dest src cyc seq datl add) xs in
       let check = fcsOf address app / 256 ∷ fcsOf address app % 256 ∷ [] in
-      omega (arith, stuffed-longer (app ++ check), length-append app check, app-longer)
+      omega (arith, stuff-least (app ++ check), length-append app check, app-longer)
 
 at-most : (a b : ℕ) → (b < a → ⊥) → a ≤ b
 at-most a b more = pick (leb a b) refl

@@ -7,7 +7,7 @@ use native.Mathlib.Omega.{arith}
 use lib.ListN.{length}
 use lib.Seq.{sets}
 use Rattle.rules.specs.Registers.{sidAt, outRep, tcyc, cnfRep, cnfCyc, outputsAt}
-use Rattle.demand3.proofs.LowNumbers.{low-number-same}
+use Rattle.rules.proofs.LowBytes.{low-same}
 use Rattle.demand3.proofs.StoredPlaces.{stored-outside}
 use Rattle.demand3.proofs.Views.{registersOf, SameRegisters}
 
@@ -22,7 +22,7 @@ apart-same r i xs h = record {
   n = stored-outside r i xs cnfCyc (h cnfCyc (omega arith) (omega arith) (λ e. omega arith) (λ l. omega arith));
   m = stored-outside r i xs cnfRep (h cnfRep (omega arith) (omega arith) (λ e. omega arith) (λ l. omega arith));
   out = λ j l. stored-outside r i xs (outputsAt + j) (h (outputsAt + j) (omega arith) (omega arith) (λ e. omega arith) (λ l. omega arith));
-  sid = low-number-same r (sets r i xs) sidAt 3 (λ j p q. stored-outside r i xs j (h j (omega arith) (omega arith) (λ e. omega arith) (λ l. omega arith)));
+  sid = low-same r (sets r i xs) sidAt 3 (λ j p q. stored-outside r i xs j (h j (omega arith) (omega arith) (λ e. omega arith) (λ l. omega arith)));
 }
 
 -- TID; STATUT; AD_REF to CONF and on to the outputs; the inputs

@@ -18,8 +18,8 @@ use Rattle.rules.specs.State as State
 use Rattle.rules.specs.Writes.{spanAt, spanEnd, spanOf}
 use Rattle.rules.specs.declared.Span.{Span}
 use Rattle.rules.specs.declared.Span.the-variants.{Release, CycleTime, Limits, Counters, Config, Outputs, Outside}
+use Rattle.rules.proofs.Spans.{InSpan, in-span}
 use Rattle.demand3.specs.Numbers.{inRun, inFallback, tcyc, cnfRep, cnfCyc, outputsAt, lastOutput, image, accepted, outsideRules, unsound, isAccepted, firstSeq, writesRelease, writesWithinOutputs}
-use Rattle.demand3.proofs.Spans.{InSpan, in-span}
 
 pub same-modes : (inRun ≡ State.inRun) × (inFallback ≡ State.inFallback)
 same-modes = (refl, refl)

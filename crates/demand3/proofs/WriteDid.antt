@@ -16,14 +16,14 @@ use Rattle.rules.specs.Writes.{spanOf, allowed, written}
 use Rattle.rules.specs.declared.Agent.{Agent}
 use Rattle.rules.specs.declared.Span.{Span}
 use Rattle.rules.specs.declared.Span.the-variants.{Release, CycleTime, Limits, Counters, Config, Outputs, Outside}
+use Rattle.rules.proofs.Spans.{InSpan, in-span}
 use Rattle.demand3.specs.Events.{aRequest, ordersRelease, writesOutputs, Request}
 use Rattle.demand3.specs.Numbers.{isAccepted}
 use Rattle.demand3.proofs.AgentViews.{agree-refl, apart-view, fallen-view, release-view, limits-view, outputs-view}
 use Rattle.demand3.proofs.Effects.{Told, fallen, takes, limits, releases, outputs, Due, LaidWrite, asked, configured, releasedBy, withdrawn, output}
 use Rattle.demand3.proofs.RegisterViews.{apart-middle}
 use Rattle.demand3.proofs.SameNumbers.{isRelease, isOutputs, release-order, output-write}
-use Rattle.demand3.proofs.SoundFacts.{two-modes}
-use Rattle.demand3.proofs.Spans.{InSpan, in-span}
+use Rattle.demand3.proofs.ViewFacts.{two-modes}
 use Rattle.demand3.proofs.Steps.{Leaves}
 use Rattle.demand3.proofs.Views.{viewOf, Agree}
 

@@ -11,6 +11,7 @@ use lib.Dec.{eqb, leb}
 use lib.ListN.{length, getD, set, length-set}
 use lib.Seq.{sets}
 use Rattle.base.specs.Choice.{within}
+use Rattle.base.proofs.Bytes.{bytes-single}
 use Rattle.base.proofs.Choosing.{and-left, and-right}
 use Rattle.base.proofs.Outside.{Outside, outside-sets, same-behind}
 use Rattle.base.proofs.Stored.{stored-in}
@@ -21,7 +22,6 @@ use Rattle.rules.specs.State.{nobody, store, storeAll}
 use Rattle.rules.specs.declared.Agent.{Agent}
 use Rattle.rules.proofs.Kept.{SameLimits, sid-same, settings-kept, mode-kept, named-kept, registers-stored, GoodTo}
 use Rattle.rules.proofs.LowBytes.{length-low, bytes-low, low-stored}
-use Rattle.rules.proofs.Marking.{one-byte}
 use Rattle.rules.proofs.Parts.{Sources, LastIs}
 use Rattle.rules.proofs.Recorded.{more-sources, more-last}
 
@@ -60,7 +60,7 @@ good-tid a tid g ok =
             (ap (λ (x : ℕ). bitAnd x 0xC0) (o statut tt))
             (λ i h. same-behind 0x13 0x14 r q o (outputsAt + i) (omega arith)) (p .by-mode);
       };
-      registers = registers-stored r tidAt (tid ∷ []) (one-byte tid (assignable-byte tid ok)) (g .registers);
+      registers = registers-stored r tidAt (tid ∷ []) (bytes-single tid (assignable-byte tid ok)) (g .registers);
       places = g .places;
     }
 

@@ -96,7 +96,7 @@ pub data KindCase (a : Agent) : Frame → List ℕ → Deed → Type 0 where
 pub data FrameCase (a : Agent) (body : List ℕ) : Deed → Type 0 where
   unread : (n : ℕ) → isMarking (readsSync (readOf body) && running a) n ≡ true
       → FrameCase a body (does n (changed (rowOf (readsSync (readOf body) && running a) n) a))
-  taken : {d : Deed} (f : Frame) → readBody body .verdict ≡ verdict.Taken → readOf body ≡ Taken f
+  readAs : {d : Deed} (f : Frame) → readBody body .verdict ≡ verdict.Taken → readOf body ≡ Taken f
       → KindCase a f (dataIn f (appIn (readBody body))) d → FrameCase a body d
 
 -- what a call does
@@ -206,7 +206,7 @@ module _ (port : ℕ) (a : Agent) where
 
   module _ (body : List ℕ) where
     read-as : readBody body .verdict ≡ verdict.Taken → (r : Read) → readOf body ≡ r → FrameCase a body (onRead port a r (appIn (readBody body)))
-    read-as v (Taken f) e = taken f v e (kind-case f (dataIn f (appIn (readBody body))))
+    read-as v (Taken f) e = readAs f v e (kind-case f (dataIn f (appIn (readBody body))))
     read-as v Kind e = unread typ refl
     read-as v Form e = unread form refl
     read-as v Check e = unread crc refl

@@ -33,7 +33,7 @@ use Rattle.rules.specs.declared.Span.the-variants as span
 use Rattle.wire.specs.Laying.{lineWith}
 use Rattle.rules.proofs.ButFor.{other-stored}
 use Rattle.rules.proofs.Calm.{Calm, calm-same, calm-before, calm-behind, calm-between, calm-fallen, quiet-sent, calm-synced, calm-ticked}
-use Rattle.rules.proofs.Cases.{Accepts, heard, read, wrote, renamed, first, again, later, KindCase, refuses, fell, outside, accepts, FrameCase, unread, taken, CallCase, unsoundly, hosts, ticks, stores, frames, call-case, by-sent}
+use Rattle.rules.proofs.Cases.{Accepts, heard, read, wrote, renamed, first, again, later, KindCase, refuses, fell, outside, accepts, FrameCase, unread, readAs, CallCase, unsoundly, hosts, ticks, stores, frames, call-case, by-sent}
 use Rattle.rules.proofs.RowKeeps.{Keeps, calmly, recounted, not-status, row-keeps}
 use Rattle.rules.proofs.Spans.{Placed, inside, span-placed}
 
@@ -88,7 +88,7 @@ module _ {a : Agent} {call : Call} where
 
 frame-keeps : {a : Agent} {body : List ℕ} {d : Deed} (port room : ℕ) → FrameCase a body d → Keeps a (frame port body room) (d .answer) (d .agent)
 frame-keeps {a = a} {body = body} port room (unread n h) = row-keeps a (frame port body room) n (readsSync (readOf body) && running a)
-frame-keeps port room (taken f v e c) = kind-keeps (brings e) c
+frame-keeps port room (readAs f v e c) = kind-keeps (brings e) c
 
 -- ---- a call
 inputs-calm : (a : Agent) (xs : List ℕ) → Calm (a .regs) (withInputs xs a .regs)

@@ -25,7 +25,7 @@ use Rattle.rules.specs.Writes.{spanOf}
 use Rattle.rules.specs.declared.Agent.{Agent}
 use Rattle.rules.specs.declared.Deed.{Deed}
 use Rattle.rules.proofs.Assigning.{good-tid, good-later, good-first}
-use Rattle.rules.proofs.Cases.{takenBy, Passes, Accepts, heard, read, wrote, renamed, first, again, later, KindCase, refuses, fell, outside, accepts, FrameCase, unread, taken, CallCase, unsoundly, hosts, ticks, stores, frames, call-case, by-sent}
+use Rattle.rules.proofs.Cases.{takenBy, Passes, Accepts, heard, read, wrote, renamed, first, again, later, KindCase, refuses, fell, outside, accepts, FrameCase, unread, readAs, CallCase, unsoundly, hosts, ticks, stores, frames, call-case, by-sent}
 use Rattle.rules.proofs.Hearing.{good-synced}
 use Rattle.rules.proofs.Kept.{GoodTo, good-counting}
 use Rattle.rules.proofs.MarkSteps.{sequence-marks, row-marks}
@@ -35,7 +35,7 @@ use Rattle.rules.proofs.Recorded.{holds-empty}
 use Rattle.rules.proofs.ServedFrames.{reads-frame}
 use Rattle.rules.proofs.SoundParts.{parts, sound-of}
 use Rattle.rules.proofs.Spans.{span-placed}
-use Rattle.rules.proofs.TakenFits.{taken-fitting}
+use Rattle.rules.proofs.ReadFits.{read-fitting}
 use Rattle.rules.proofs.Ticking.{good-tick}
 use Rattle.rules.proofs.Writing.{good-written}
 
@@ -77,9 +77,9 @@ module _ {a : Agent} (g : GoodTo 254 a) where
 
   good-frame : {body : List ℕ} {d : Deed} → Bytes body → FrameCase a body d → GoodTo 254 (d .agent)
   good-frame {body = body} b (unread n h) = good-marks 254 g (row-marks a (readsSync (readOf body) && running a) n h)
-  good-frame {body = body} b (taken f v e c) =
+  good-frame {body = body} b (readAs f v e c) =
       let s : Bytes (appIn (readBody body)) = data-bytes body b in
-      good-kind (taken-fitting (readBody body .addr) (appIn (readBody body)) f s (reads-frame (readBody body .addr) (appIn (readBody body)) f e))
+      good-kind (read-fitting (readBody body .addr) (appIn (readBody body)) f s (reads-frame (readBody body .addr) (appIn (readBody body)) f e))
       (bytes-take (dataLen f) (drop (dataPlace f) (appIn (readBody body))) (bytes-drop (dataPlace f) (appIn (readBody body)) s)) c
 
   good-call : {call : Call} {o : Outcome} → BytesCall call → CallCase a call o → GoodTo 254 (o .agent)

@@ -7,16 +7,15 @@ use native.Mathlib.Omega.{arith}
 use lib.Bits.{bitAnd}
 use lib.ListN.{getD, replicate, length-replicate, getD-replicate}
 use lib.Seq.{sets}
-use Rattle.base.proofs.Bytes.{bytes-replicate, bytes-written}
+use Rattle.base.proofs.Bytes.{bytes-single, bytes-replicate, bytes-written}
 use Rattle.base.proofs.Stored.{stored-before, stored-behind, stored-in}
 use Rattle.rules.specs.Good.{Good}
 use Rattle.rules.specs.PowerUp.{settings, powerRegs, powerUp}
 use Rattle.rules.specs.Registers.{macAt, iidAt, typAt, verAt, tidAt, sidAt, outRep, tcyc, statut, cnfRep, cnfCyc, outputsAt, image, lowBytes, lowNumber}
 use Rattle.rules.specs.State.{nobody}
 use Rattle.rules.proofs.GoodNext.{parts-good}
-use Rattle.rules.proofs.Kept.{Registers, registers-stored, GoodTo}
+use Rattle.rules.proofs.Kept.{ByteRegisters, registers-stored, GoodTo}
 use Rattle.rules.proofs.LowBytes.{length-low, bytes-low}
-use Rattle.rules.proofs.Marking.{one-byte}
 use Rattle.rules.proofs.Parts.{Settings}
 
 module _ (mac iid ver : ℕ) where
@@ -40,21 +39,21 @@ module _ (mac iid ver : ℕ) where
   r = powerRegs mac iid ver
 
   -- ---- they are 256 bytes
-  zeros : Registers (replicate 256 0)
+  zeros : ByteRegisters (replicate 256 0)
   zeros = record { are-256 = length-replicate {A = ℕ} 256 0; are-bytes = bytes-replicate 256 0 (omega arith) }
 
-  iids-are : Registers iids
+  iids-are : ByteRegisters iids
   unfolding macs iids
   iids-are =
       registers-stored macs iidAt (lowBytes 8 iid) (bytes-low 8 iid) (registers-stored (replicate 256 0) macAt (lowBytes 8 mac) (bytes-low 8 mac) zeros)
 
-  vers-are : Registers vers
+  vers-are : ByteRegisters vers
   unfolding typs vers
   vers-are =
       registers-stored typs verAt (lowBytes 2 ver) (bytes-low 2 ver)
-      (registers-stored iids typAt (0x82 ∷ []) (one-byte 0x82 (omega arith)) iids-are)
+      (registers-stored iids typAt (0x82 ∷ []) (bytes-single 0x82 (omega arith)) iids-are)
 
-  start-registers : Registers r
+  start-registers : ByteRegisters r
   unfolding powerRegs macs iids typs vers sets13 r
   start-registers =
       registers-stored sets13 0x26 (replicate 90 0xFF) (bytes-replicate 90 0xFF (omega arith))

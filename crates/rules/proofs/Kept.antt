@@ -137,20 +137,20 @@ parts-kept most a q f p = record {
 }
 
 -- ---- and with it that registers are 256 bytes
-pub record Registers (r : List ℕ) : Type 0 where
+pub record ByteRegisters (r : List ℕ) : Type 0 where
   pub are-256 : length r ≡ 256
   pub are-bytes : Bytes r
 
-pub registers-stored : (r : List ℕ) (i : ℕ) (xs : List ℕ) → Bytes xs → Registers r → Registers (sets r i xs)
+pub registers-stored : (r : List ℕ) (i : ℕ) (xs : List ℕ) → Bytes xs → ByteRegisters r → ByteRegisters (sets r i xs)
 registers-stored r i xs b z = record { are-256 = length-sets r i xs ∙ z .are-256; are-bytes = stored-bytes r i xs (z .are-bytes) b }
 
 -- good, with e at most `most`
 pub record GoodTo (most : ℕ) (a : Agent) : Type 0 where
   pub parts : PartsTo most a
-  pub registers : Registers (a .regs)
+  pub registers : ByteRegisters (a .regs)
   pub places : length (a .known) ≡ 8
 
-pub good-kept : (most : ℕ) (a : Agent) (q : List ℕ) → SameFor (a .regs) q → Registers q → GoodTo most a → GoodTo most (withRegs q a)
+pub good-kept : (most : ℕ) (a : Agent) (q : List ℕ) → SameFor (a .regs) q → ByteRegisters q → GoodTo most a → GoodTo most (withRegs q a)
 good-kept most a q f z g = record { parts = parts-kept most a q f (g .parts); registers = z; places = g .places }
 
 -- ---- other counters, flags and last source

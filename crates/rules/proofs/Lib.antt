@@ -9,7 +9,7 @@ pub mod QuietBits
 pub mod Calm
 pub mod RowKeeps
 pub mod CountersKept
-pub mod TakenFits
+pub mod ReadFits
 pub mod ServedFrames
 pub mod LaidServed
 pub mod Parts

@@ -1,4 +1,5 @@
--- Numbers in registers, low byte first: what is stored is read back. Assumes nothing.
+-- Numbers in registers, low byte first: what is stored is read back, and a number is the same where its registers are.
+-- Assumes nothing.
 use mathlib.Core.Path.{_≡_, refl, sym, ap, ap₂, _∙_}
 use mathlib.Core.List.{List}
 use Prim.Native.Nat.{ℕ, zero, suc, _+_, _*_, _/_, _%_, _^_, _≤_, _<_}
@@ -37,3 +38,10 @@ pub low-stored : (r : List ℕ) (i w n : ℕ) → n < 256 ^ w → i + w ≤ leng
 low-stored r i w n h f =
     low-held w i n (sets r i (lowBytes w n))
     (λ k l. stored-at r i (lowBytes w n) k (omega (arith, length-low w n)) (omega (arith, length-low w n))) h
+
+pub low-same : (r s : List ℕ) (i w : ℕ) → ((j : ℕ) → i ≤ j → j < i + w → getD s j 0 ≡ getD r j 0) → lowNumber s i w ≡ lowNumber r i w
+unfolding lowNumber
+low-same r s i zero h = refl
+low-same r s i (suc w) h =
+    ap₂ (λ (x y : ℕ). x + y * 256) (h i (omega arith) (omega arith))
+    (low-same r s (i + 1) w (λ j p q. h j (omega arith) (omega arith)))

@@ -1,7 +1,8 @@
 -- What a refusal marks, as steps: bits of STATUT set, other than 7 and 6, and counters raised. Assumes nothing.
 use mathlib.Core.Bool.{Bool, true, false, _&&_, _||_}
-use mathlib.Core.Path.{_≡_, refl}
+use mathlib.Core.Path.{_≡_, refl, sym, _∙_, subst}
 use Prim.Native.Nat.{ℕ}
+use borrow.Author.Tests.{ne-eqb}
 use lib.Bits.{bitOr}
 use lib.Dec.{eqb}
 use Rattle.base.specs.Choice.{within}
@@ -39,6 +40,10 @@ isFrames n = within bodyLength eightOthers n
 -- and of these the ones that only mark
 abbrev pub isMarking : Bool → ℕ → Bool
 isMarking syncInRun n = isFrames n && onlyMarks (rowOf syncInRun n)
+
+-- a number of which a test holds is not one of which it fails
+pub apart : (is : ℕ → Bool) (n m : ℕ) → is n ≡ true → is m ≡ false → eqb n m ≡ false
+apart is n m p q = ne-eqb n m (λ e. never (sym q ∙ subst (λ (k : ℕ). is k ≡ true) e p))
 
 module _ (a : Agent) where
   line-marks : Marks a (lineMarked a)

@@ -11,7 +11,7 @@ use lib.Bits.{bitAnd, bitOr}
 use lib.Dec.{eqb}
 use lib.ListN.{getD, replicate, length-replicate, getD-replicate}
 use lib.Seq.{sets, length-sets}
-use Rattle.base.proofs.Bytes.{bytes-replicate}
+use Rattle.base.proofs.Bytes.{bytes-single, bytes-replicate}
 use Rattle.base.proofs.Outside.{Outside, outside-sets, same-before}
 use Rattle.base.proofs.Stored.{stored-before, stored-behind, stored-at, stored-in}
 use Rattle.base.proofs.Choosing.{never}
@@ -19,8 +19,8 @@ use Rattle.rules.specs.Fallback.{released, withheld, enterFallback, ente
 use Rattle.rules.specs.Registers.{typAt, tidAt, outRep, tcyc, statut, cnfRep, cnfCyc, outputsAt, image}
 use Rattle.rules.specs.State.{inRun, inFallback, nobody, reg, withClock}
 use Rattle.rules.specs.declared.Agent.{Agent}
-use Rattle.rules.proofs.Kept.{SameSettings, same-but-status, sid-before, settings-kept, running-kept, named-kept, Registers, registers-stored, GoodTo}
-use Rattle.rules.proofs.Marking.{one-byte, two-modes}
+use Rattle.rules.proofs.Kept.{SameSettings, same-but-status, sid-before, settings-kept, running-kept, named-kept, ByteRegisters, registers-stored, GoodTo}
+use Rattle.rules.proofs.Marking.{two-mode-bits}
 use Rattle.rules.proofs.Masks.{bits-set, bits-cleared, or-byte, and-byte}
 use Rattle.rules.proofs.Parts.{modeBits, Settings, ModeParts, PartsTo}
 
@@ -32,7 +32,7 @@ rests r s q last mode p e = ⊎-elim (λ m. never (sym (not-true (eqb mode inRun
 abbrev fallenRegs : List ℕ → ℕ → List ℕ
 fallenRegs r x = sets (sets (sets r statut (x ∷ [])) outRep (withheld ∷ [])) outputsAt (replicate image 0)
 
-module _ (r : List ℕ) (x : ℕ) (z : Registers r) where
+module _ (r : List ℕ) (x : ℕ) (z : ByteRegisters r) where
   marked : List ℕ
   marked = sets r statut (x ∷ [])
 
@@ -77,11 +77,11 @@ module _ (r : List ℕ) (x : ℕ) (z : Registers r) where
       (omega (arith, length-replicate {A = ℕ} image 0, length-sets marked outRep (withheld ∷ []), length-sets r statut (x ∷ []), z .are-256))
       ∙ getD-replicate image i 0 0 h
 
-  fallen-registers : x < 256 → Registers (fallenRegs r x)
+  fallen-registers : x < 256 → ByteRegisters (fallenRegs r x)
   unfolding marked held
   fallen-registers b =
       registers-stored held outputsAt (replicate image 0) (bytes-replicate image 0 (omega arith))
-      (registers-stored marked outRep (withheld ∷ []) (one-byte withheld (omega arith)) (registers-stored r statut (x ∷ []) (one-byte x b) z))
+      (registers-stored marked outRep (withheld ∷ []) (bytes-single withheld (omega arith)) (registers-stored r statut (x ∷ []) (bytes-single x b) z))
 
   fallen-settings : Settings r → Settings (fallenRegs r x)
   fallen-settings s = record {
@@ -101,7 +101,7 @@ pub good-fallen-at : (most later : ℕ) (a : Agent) (e s q : ℕ) → e ≤ late
 unfolding enterFallback
 good-fallen-at most later a e s q h g =
     let r : List ℕ = a .regs in
-    let z : Registers r = g .registers in
+    let z : ByteRegisters r = g .registers in
     let p : PartsTo most a = g .parts in
     let x : ℕ = bitOr (getD r statut 0) 0x80 in
     let b : getD r statut 0 < 256 = z .are-bytes statut in
@@ -119,7 +119,7 @@ good-fallen-at most later a e s q h g =
           in-run = λ m. absurd (omega (arith, m));
           in-fallback = λ m. record {
             bits = ap (λ (n : ℕ). bitAnd n 0xC0) (fallen-status r x z) ∙ bits-set (getD r statut 0) b
-                ∙ bit-7 (modeBits r) (two-modes r (a .silence) (a .idle) (a .last) (a .mode) (p .by-mode));
+                ∙ bit-7 (modeBits r) (two-mode-bits r (a .silence) (a .idle) (a .last) (a .mode) (p .by-mode));
             q-zero = refl;
             outputs-zero = fallen-outputs r x z;
           };
@@ -142,7 +142,7 @@ pub good-running : (most : ℕ) (a : Agent) → GoodTo most a → a .mode ≡ in
 unfolding enterRun
 good-running most a g resting rep s last =
     let r : List ℕ = a .regs in
-    let z : Registers r = g .registers in
+    let z : ByteRegisters r = g .registers in
     let p : PartsTo most a = g .parts in
     let x : ℕ = bitAnd (getD r statut 0) 0x7F in
     let b : getD r statut 0 < 256 = z .are-bytes statut in
@@ -167,6 +167,6 @@ good-running most a g resting rep s last =
           in-fallback = λ m. absurd (omega (arith, m));
         };
       };
-      registers = registers-stored r statut (x ∷ []) (one-byte x (and-byte (getD r statut 0) 0x7F b (omega arith))) z;
+      registers = registers-stored r statut (x ∷ []) (bytes-single x (and-byte (getD r statut 0) 0x7F b (omega arith))) z;
       places = g .places;
     }

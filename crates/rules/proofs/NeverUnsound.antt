@@ -1,9 +1,9 @@
 -- No rule answers 19, so a good agent is never answered 19. Assumes nothing.
-use mathlib.Core.Bool.{Bool, true, false, _&&_}
+use mathlib.Core.Bool.{true, false, _&&_}
 use mathlib.Core.List.{List}
-use mathlib.Core.Path.{_≡_, refl, sym, _∙_, subst}
+use mathlib.Core.Path.{_≡_, refl, sym, _∙_}
 use Prim.Native.Nat.{ℕ}
-use borrow.Author.Tests.{eqb-false, ne-eqb}
+use borrow.Author.Tests.{eqb-false}
 use lib.Dec.{eqb}
 use Rattle.base.proofs.Choosing.{never}
 use Rattle.frames.specs.declared.kinds.Frame.{Frame}
@@ -16,15 +16,11 @@ use Rattle.rules.specs.Sound.{sound}
 use Rattle.rules.specs.State.{running}
 use Rattle.rules.specs.declared.Agent.{Agent}
 use Rattle.rules.specs.declared.Deed.{Deed}
-use Rattle.rules.proofs.Cases.{isHosts, KindCase, refuses, fell, outside, accepts, FrameCase, unread, taken, CallCase, unsoundly, hosts, ticks, stores, frames, call-case, by-sent}
-use Rattle.rules.proofs.MarkSteps.{isMarking}
+use Rattle.rules.proofs.Cases.{isHosts, KindCase, refuses, fell, outside, accepts, FrameCase, unread, readAs, CallCase, unsoundly, hosts, ticks, stores, frames, call-case, by-sent}
+use Rattle.rules.proofs.MarkSteps.{isMarking, apart}
 
 abbrev Other : ℕ → Type 0
 Other n = eqb n unsound ≡ false
-
--- a number of which a test holds is not one of which it fails
-apart : (is : ℕ → Bool) (n m : ℕ) → is n ≡ true → is m ≡ false → eqb n m ≡ false
-apart is n m p q = ne-eqb n m (λ e. never (sym q ∙ subst (λ (k : ℕ). is k ≡ true) e p))
 
 kind-other : {a : Agent} {f : Frame} {xs : List ℕ} {d : Deed} → KindCase a f xs d → Other (d .answer)
 kind-other {a = a} {f = f} (refuses n h) = apart (isMarking (isSync f && running a)) n unsound h refl
@@ -34,7 +30,7 @@ kind-other (accepts c) = refl
 
 frame-other : {a : Agent} {body : List ℕ} {d : Deed} → FrameCase a body d → Other (d .answer)
 frame-other {a = a} {body = body} (unread n h) = apart (isMarking (readsSync (readOf body) && running a)) n unsound h refl
-frame-other (taken f v e c) = kind-other c
+frame-other (readAs f v e c) = kind-other c
 
 call-other : {a : Agent} {call : Call} {o : Outcome} → sound a ≡ true → CallCase a call o → Other (o .answer)
 call-other s (unsoundly e) = never (sym e ∙ s)
@@ -43,5 +39,5 @@ call-other s ticks = refl
 call-other s (stores e) = refl
 call-other s (frames {d = d} c) = by-sent (λ o. Other (o .answer)) d (frame-other c) (λ f. frame-other c)
 
-pub never-unsound : (a : Agent) (call : Call) → Good a → act a call .answer ≡ 19 → ⊥
-never-unsound a call g = eqb-false (act a call .answer) 19 (call-other (g .sound-is) (call-case a call))
+pub never-unsound : (a : Agent) (call : Call) → Good a → act a call .answer ≡ unsound → ⊥
+never-unsound a call g = eqb-false (act a call .answer) unsound (call-other (g .sound-is) (call-case a call))

@@ -19,7 +19,7 @@ use Rattle.rules.specs.declared.Agent.{Agent}
 use Rattle.rules.specs.declared.Deed.{Deed}
 use Rattle.rules.specs.declared.Reply.the-variants.{Silent}
 use Rattle.rules.proofs.ButFor.{but-for}
-use Rattle.rules.proofs.Cases.{isHosts, KindCase, refuses, fell, outside, accepts, FrameCase, unread, taken, CallCase, unsoundly, hosts, ticks, stores, frames, call-case, by-sent, sent-silent}
+use Rattle.rules.proofs.Cases.{isHosts, KindCase, refuses, fell, outside, accepts, FrameCase, unread, readAs, CallCase, unsoundly, hosts, ticks, stores, frames, call-case, by-sent, sent-silent}
 use Rattle.rules.proofs.Makes.{makes}
 use Rattle.rules.proofs.MarkSteps.{onlyMarks, isFrames, isMarking}
 
@@ -57,7 +57,7 @@ module _ {a : Agent} where
     silent = refl;
     state = refl;
   }
-  frame-refused (taken {d = d} f v e c) z = subst (λ (b : Bool). RefusedDeed a b d) (sym (ap readsSync e)) (kind-refused c z)
+  frame-refused (readAs {d = d} f v e c) z = subst (λ (b : Bool). RefusedDeed a b d) (sym (ap readsSync e)) (kind-refused c z)
 
   -- the statement, from its number, what is sent and the agent
   refusal : (call : Call) (n : ℕ) (b : Agent) → isRefusal n ≡ true → b ≡ changed (rowOf (syncInRun a call) n) a → Refused a call (outcome n b)

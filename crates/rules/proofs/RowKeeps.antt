@@ -15,9 +15,7 @@ use Rattle.rules.specs.Marks.{counter, lineMarked, formatMarked, sequenc
 use Rattle.rules.specs.Refusals.{lineMark, formatMark, sequenceMark, rowOf, changed}
 use Rattle.rules.specs.Registers.{statut, cptSeq, cptFor}
 use Rattle.rules.specs.State.{reg, store}
-use Rattle.rules.specs.Writes as writes
 use Rattle.rules.specs.declared.Agent.{Agent}
-use Rattle.rules.specs.declared.Span.the-variants as span
 use Rattle.rules.proofs.ButFor.{but-for, other-stored}
 use Rattle.rules.proofs.Calm.{counter-low, by-stored, Calm, calm-same, calm-status, calm-fallen}
 use Rattle.rules.proofs.QuietBits.{quiet-line, quiet-sequence}

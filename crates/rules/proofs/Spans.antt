@@ -1,12 +1,13 @@
--- Where the span of a write lies. Assumes nothing.
-use mathlib.Core.Path.{_≡_}
-use mathlib.Core.Bool.{true, _&&_}
+-- Where a write into a span lies: at least one byte, from the span's first register at the earliest, up to its last.
+-- Assumes nothing.
+use mathlib.Core.Path.{_≡_, subst}
+use mathlib.Core.Bool.{Bool, true, false, _&&_}
 use Prim.Native.Nat.{ℕ, _+_, _≤_}
 use native.Mathlib.Omega.{arith}
 use borrow.Author.Tests.{eqb-true, leb-true}
 use lib.Dec.{eqb, leb}
 use Rattle.base.specs.Choice.{within}
-use Rattle.base.proofs.Choosing.{by-test, and-left, and-right}
+use Rattle.base.proofs.Choosing.{by-test, and-left, and-right, never}
 use Rattle.rules.specs.Writes.{spanAt, spanEnd, spanOf}
 use Rattle.rules.specs.declared.Span.{Span}
 use Rattle.rules.specs.declared.Span.the-variants.{Release, CycleTime, Limits, Counters, Config, Outputs, Outside}
@@ -53,3 +54,25 @@ span-placed add n =
     (span-from add .low)
     (leb-true (add + n) (spanEnd (spanAt add)) (and-right (leb 1 n) (leb (add + n) (spanEnd (spanAt add))) e)))
     (λ e. outside)
+
+-- ---- of a span by its name
+abbrev pub isSpan : Span → Bool
+isSpan Release = true
+isSpan CycleTime = true
+isSpan Limits = true
+isSpan Counters = true
+isSpan Config = true
+isSpan Outputs = true
+isSpan Outside = false
+
+pub record InSpan (add n : ℕ) (s : Span) : Type 0 where
+  pub some : 1 ≤ n
+  pub low : spanStart s ≤ add
+  pub high : add + n ≤ spanEnd s
+
+placed-in : {add n : ℕ} {s : Span} → Placed add n s → isSpan s ≡ true → InSpan add n s
+placed-in (inside s some low high) h = record { some = some; low = low; high = high }
+placed-in outside h = never h
+
+pub in-span : (add n : ℕ) (s : Span) → spanOf add n ≡ s → isSpan s ≡ true → InSpan add n s
+in-span add n s e = subst (λ (s : Span). isSpan s ≡ true → InSpan add n s) e (placed-in (span-placed add n))

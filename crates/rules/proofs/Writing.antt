@@ -24,7 +24,7 @@ use Rattle.rules.specs.Writes.{allowed, written}
 use Rattle.rules.specs.declared.Agent.{Agent}
 use Rattle.rules.specs.declared.Span.{Span}
 use Rattle.rules.specs.declared.Span.the-variants as span
-use Rattle.rules.proofs.Kept.{SameSettings, same-behind-settings, sid-before, settings-kept, running-kept, named-kept, Registers, registers-stored, GoodTo}
+use Rattle.rules.proofs.Kept.{SameSettings, same-behind-settings, sid-before, settings-kept, running-kept, named-kept, ByteRegisters, registers-stored, GoodTo}
 use Rattle.rules.proofs.Marking.{good-middle}
 use Rattle.rules.proofs.Modes.{rests, good-fallen, positive}
 use Rattle.rules.proofs.Parts.{Settings, Resting, ModeParts}
@@ -35,7 +35,7 @@ stored-first : (r xs : List ℕ) (i j : ℕ) → i ≡ j → 1 ≤ length xs →
 stored-first r xs i j e h f = ap (λ (k : ℕ). getD (sets r i xs) k 0) (sym e ∙ sym (add-zero i)) ∙ stored-at r i xs 0 h f
 
 -- new registers that keep all below OUT_REP, and q
-rewritten : (a : Agent) (g : GoodTo 254 a) (q : List ℕ) (i : ℕ) → Registers q → ((j : ℕ) → j < 0x17 → getD q j 0 ≡ getD (a .regs) j 0)
+rewritten : (a : Agent) (g : GoodTo 254 a) (q : List ℕ) (i : ℕ) → ByteRegisters q → ((j : ℕ) → j < 0x17 → getD q j 0 ≡ getD (a .regs) j 0)
     → Settings q → ModeParts q (a .silence) i (a .last) (a .mode) → GoodTo 254 (withIdle i (withRegs q a))
 rewritten a g q i z low s m =
     let p = g .parts in
@@ -61,7 +61,7 @@ module _ (a : Agent) (g : GoodTo 254 a) (add : ℕ) (xs : List ℕ) (b : Bytes x
   q : List ℕ
   q = sets (a .regs) add xs
 
-  z : Registers (sets (a .regs) add xs)
+  z : ByteRegisters (sets (a .regs) add xs)
   z = registers-stored (a .regs) add xs b (g .registers)
 
   s : Settings (a .regs)

@@ -21,7 +21,7 @@ onTid a iid tid =
     choose (not (eqb iid (lowNumber (a .regs) iidAt 8))) (does addressee a)
     (choose (assignable tid) (does accepted (store tidAt tid a)) (does notAllowed a))
 
--- the first is taken if SID and SRC differ from FFFFFFh
+-- the first is accepted if SID and SRC differ from FFFFFFh
 unfoldable pub onFirstSid : Agent → ℕ → ℕ → ℕ → Deed
 onFirstSid a src sec sid =
     choose (eqb sid nobody) (does notAllowed a) (acknowledges (recorded src (storeAll sidAt (lowBytes 3 sid) a)) src sec)

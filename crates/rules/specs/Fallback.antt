@@ -1,5 +1,4 @@
 -- Entering fallback, and entering RUN. Assumes nothing.
-use mathlib.Core.List.{List}
 use Prim.Native.Nat.{ℕ}
 use lib.Bits.{bitAnd, bitOr}
 use lib.ListN.{replicate}

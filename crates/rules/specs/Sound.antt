@@ -1,5 +1,5 @@
 -- A state is sound if .. (document 01, "Who causes which number"), part by part. Assumes nothing.
-use mathlib.Core.Bool.{Bool, true, false, not, _&&_, _||_, Bool·beq}
+use mathlib.Core.Bool.{Bool, true, not, _&&_, _||_, Bool·beq}
 use mathlib.Core.List.{List}
 use Prim.Native.Nat.{ℕ, zero, suc, _+_, _*_}
 use lib.Bits.{bitAnd}
@@ -10,7 +10,7 @@ use Rattle.rules.specs.Fallback.{released, withheld}
 use Rattle.rules.specs.Registers.{typAt, tidAt, outRep, statut, outputsAt, image}
 use Rattle.rules.specs.Requests.{mostTaken}
 use Rattle.rules.specs.Sources.{distinct, below24, isRecorded, sidOf}
-use Rattle.rules.specs.State.{inRun, inFallback, isHeard, unheard, nobody, running, reg, tOf, nOf, mOf}
+use Rattle.rules.specs.State.{inRun, inFallback, isHeard, unheard, nobody, reg, tOf, nOf, mOf}
 use Rattle.rules.specs.declared.Agent.{Agent}
 
 -- t, n, m are not 0, OUT_REP is 55h or AAh, TID is 8Fh or assignable, TYP is 82h

@@ -6,7 +6,7 @@ use Prim.Native.Nat.{ℕ}
 use lib.Dec.{eqb}
 use lib.ListN.{getD}
 use lib.Seq.{sets}
-use Rattle.rules.specs.Registers.{outRep, tcyc, statut, cnfRep, cnfCyc}
+use Rattle.rules.specs.Registers.{tcyc, cnfRep, cnfCyc}
 use Rattle.rules.specs.declared.Agent.{Agent}
 
 -- the two modes, and the two values of heard

@@ -23,7 +23,7 @@ pub record Progress (start : Agent) (room : ℕ) (calls : List Call) (s : List �
   pub parts : callsOf done ++ rest ≡ calls
   pub makable : AllMakable room rest
   pub ahead : drop at s ≡ listBytes rest
-  pub counted : to ≡ recordSize + recordSize * length done
+  pub length-is : to ≡ recordSize + recordSize * length done
   pub agent-is : lastOf start done ≡ a
   pub reached : Reached (historyOf start powerOn done) a
   pub wrote : take to log ≡ recordOf 0 start ++ recordsOf done
@@ -38,7 +38,7 @@ at-start start room calls s log e makable reached full h to t log′ w = record 
   parts = refl;
   makable = makable;
   ahead = e;
-  counted = t;
+  length-is = t;
   agent-is = refl;
   reached = reached;
   wrote = ap₂ take t w ∙ one-more log 0 0 start full h ∙ sym (append-nil (recordOf 0 start));
@@ -79,7 +79,7 @@ module _ (start : Agent) (room : ℕ) (calls : List Call) (s : List ℕ) (at to 
         parts = calls-more (p .done) d xs ∙ parts;
         makable = makable .1;
         ahead = step .comes-to x (listBytes xs) ahead (makable .0);
-        counted = omega (arith, p .counted, length-append (p .done) (d ∷ []));
+        length-is = omega (arith, p .length-is, length-append (p .done) (d ∷ []));
         agent-is = last-more start (p .done) d;
         reached = reached-on d (step .continues x (listBytes xs) ahead (makable .0));
         wrote = wrote-on d k;
@@ -103,7 +103,7 @@ module _ (start : Agent) (room : ℕ) (calls : List Call) (s : List ℕ) (at to 
       → (rest : List Call) → callsOf (p .done) ++ rest ≡ calls → drop at s ≡ listBytes rest → ⊥
   no-place h k few [] parts ahead = none-left h ahead
   no-place h k few (x ∷ xs) parts ahead =
-      omega (arith, p .counted, calls-done (p .done), sym (length-append (callsOf (p .done)) (x ∷ xs)) ∙ ap length parts)
+      omega (arith, p .length-is, calls-done (p .done), sym (length-append (callsOf (p .done)) (x ∷ xs)) ∙ ap length parts)
 
   pub never-full : at < length s → length log < to + recordSize → recordSize + recordSize * length calls ≤ length log → ⊥
   never-full h k few = no-place h k few (p .rest) (p .parts) (p .ahead)

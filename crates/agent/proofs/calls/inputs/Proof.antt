@@ -1,6 +1,6 @@
 -- `calls::inputs` meets its contract. Assumes nothing.
 use borrow.Author.Needs.{needs}
-use Rattle.agent.proofs.CallLaws.{inputs-taken, inputs-refused, inputs-unsound}
+use Rattle.agent.proofs.CallLaws.{inputs-accepted, inputs-refused, inputs-unsound}
 use Rattle.agent.proofs.calls.inputs.Statement.{statement}
 use Rattle.agent.proofs.calls.inputs.Tie as tie
 
@@ -13,7 +13,7 @@ with-inputs-requires c κs = search needs
 returns : tie.Need-returns
 returns c =
     let p = c .before .before in
-    inputs-taken _ _ _ _ (p .before .sound .ensures) (p .if1 .taken) (c .before .if2 .taken) (c .with-inputs .ensures)
+    inputs-accepted _ _ _ _ (p .before .sound .ensures) (p .if1 .taken) (c .before .if2 .taken) (c .with-inputs .ensures)
 
 returns-2 : tie.Need-returns-2
 returns-2 c = inputs-refused _ _ _ (c .before .before .sound .ensures) (c .before .if1 .taken) (c .if2 .left)

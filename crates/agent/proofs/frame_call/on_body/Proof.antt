@@ -1,4 +1,4 @@
--- `frame_call::on_body` meets its contract: taken, reserved, and the line's numbers. Assumes nothing.
+-- `frame_call::on_body` meets its contract: read, reserved, and the line's numbers. Assumes nothing.
 use mathlib.Core.Path.{_≡_, sym, ap, _∙_}
 use native.Mathlib.Omega.{arith}
 use lib.ListN.{length}

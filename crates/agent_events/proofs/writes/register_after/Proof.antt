@@ -2,8 +2,7 @@
 use mathlib.Core.Path.{sym}
 use native.Mathlib.Omega.{arith}
 use borrow.Author.Needs.{needs}
-use Rattle.base.proofs.Stored.{stored-before, stored-behind}
-use Rattle.agent_events.proofs.StoredPast.{stored-reached}
+use Rattle.base.proofs.Stored.{stored-before, stored-behind, stored-reached}
 use Rattle.agent_events.proofs.writes.register_after.Statement.{statement}
 use Rattle.agent_events.proofs.writes.register_after.Tie as tie
 

@@ -1,7 +1,6 @@
 -- `sound::settings_sound` meets its contract. Assumes nothing.
-use mathlib.Core.Path.{refl}
-use Rattle.rules.specs.Sound.{settingsSound}
 use borrow.Author.Needs.{needs}
+use Rattle.agent_state.proofs.SoundLaws.{settings-law}
 use Rattle.agent_state.proofs.sound.settings_sound.Statement.{statement}
 use Rattle.agent_state.proofs.sound.settings_sound.Tie as tie
 
@@ -10,6 +9,9 @@ element-copy-out-release c = search needs
 
 element-copy-out-tid : tie.Need-element-copy-out-tid
 element-copy-out-tid c = search needs
+
+assignable-requires : tie.Need-assignable-requires
+assignable-requires c κs = search needs
 
 element-copy-out-result : tie.Need-element-copy-out-result
 element-copy-out-result c = search needs
@@ -24,8 +26,17 @@ element-copy-out-result-4 : tie.Need-element-copy-out-result-4
 element-copy-out-result-4 c = search needs
 
 returns : tie.Need-returns
-unfolding settingsSound
-returns c = refl
+returns c = settings-law _ _ (search needs)
 
 pub settings-sound-spec : {M : Type 1} → statement M
-settings-sound-spec = tie.close (tie.spec element-copy-out-release element-copy-out-tid element-copy-out-result element-copy-out-result-2 element-copy-out-result-3 element-copy-out-result-4 returns)
+settings-sound-spec =
+    tie.close
+    (tie.spec
+    element-copy-out-release
+    element-copy-out-tid
+    assignable-requires
+    element-copy-out-result
+    element-copy-out-result-2
+    element-copy-out-result-3
+    element-copy-out-result-4
+    returns)

@@ -1,4 +1,4 @@
--- The fields of a frame that the reader takes from bytes fit their lengths. Assumes nothing.
+-- The fields of a frame that is read from bytes fit their lengths. Assumes nothing.
 use mathlib.Core.Path.{_≡_}
 use mathlib.Core.List.{List}
 use Prim.Native.Nat.{ℕ}
@@ -10,5 +10,5 @@ use Rattle.frames.proofs.Fits.{FittingFrame}
 use Rattle.frames.proofs.Standing.{stands-fitting}
 use Rattle.frames.proofs.TakenStands.{stands}
 
-pub taken-fitting : (a : ℕ) (s : List ℕ) (f : Frame) → Bytes s → readApp a s ≡ Taken f → FittingFrame f
-taken-fitting a s f bs e = stands-fitting a s f bs (stands a s bs f e)
+pub read-fitting : (a : ℕ) (s : List ℕ) (f : Frame) → Bytes s → readApp a s ≡ Taken f → FittingFrame f
+read-fitting a s f bs e = stands-fitting a s f bs (stands a s bs f e)
