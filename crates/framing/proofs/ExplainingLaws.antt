@@ -13,13 +13,13 @@ use Rattle.text.specs.Putting.{hexText}
 use Rattle.frames.specs.declared.kinds.Frame.{Frame}
 use Rattle.frames.specs.Reading.{readFrame}
 use Rattle.frames.specs.declared.reading.Received.{Received}
-use Rattle.frame_fields.specs.Chars.{chars}
-use Rattle.frame_fields.specs.Words.{wordAt}
-use Rattle.frame_fields.specs.Table.{fieldsFrom, fieldsOf, hasData, kindWord}
-use Rattle.frame_fields.specs.Texts.{noText, put, puts}
+use Rattle.frame_words.specs.Chars.{chars}
+use Rattle.frame_words.specs.Words.{wordAt}
+use Rattle.frame_words.specs.Table.{fieldsFrom, fieldsOf, hasData, kindWord}
+use Rattle.frame_words.specs.Texts.{noText, put, puts}
 use Rattle.frame_fields.specs.Numbers.{kindOf, numbersOf}
 use Rattle.framing.specs.Answers.{putField, putFields, dataOf, frameText, byReading, explainedText}
-use Rattle.frame_fields.specs.declared.texts.Text.{Text}
+use Rattle.frame_words.specs.declared.texts.Text.{Text}
 use Rattle.frame_fields.proofs.RowLaws.{fields-turn, fields-end}
 
 -- the w bytes of a number, stored at the start

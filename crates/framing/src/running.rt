@@ -1,9 +1,9 @@
 // Standard input, line by line, to standard output.
 use crate::answering;
 use crate::grammar;
-use frame_fields::table::Kind;
-use frame_fields::texts;
-use frame_fields::texts::Text;
+use frame_words::table::Kind;
+use frame_words::texts;
+use frame_words::texts::Text;
 use libc::STDIN_FILENO;
 use libc::STDOUT_FILENO;
 use text::lines;
