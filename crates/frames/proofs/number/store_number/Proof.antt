@@ -1,15 +1,16 @@
--- `putting::put_number` meets its contract. The invariant: the rest of the number, put before the place reached, gives
+-- `number::store_number` meets its contract. The invariant: the rest of the number, put before the place reached, gives
 -- the whole. Assumes nothing.
-use mathlib.Core.Path.{_≡_, _∙_}
-use Prim.Native.Nat.{suc, _-_, _≤_}
+use mathlib.Core.Path.{_≡_, ap, _∙_}
+use mathlib.Core.List.{List}
+use Prim.Native.Nat.{ℕ, suc, _-_, _≤_, _/_}
 use native.Mathlib.Omega.{arith}
 use lib.ListN.{length, length-set}
 use lib.Seq.{sets}
 use borrow.Author.Needs.{needs}
 use Rattle.base.specs.Bytes.{bytesOf}
 use Rattle.base.proofs.Stores.{number-turn}
-use Rattle.frames.proofs.putting.put_number.Statement.{statement}
-use Rattle.frames.proofs.putting.put_number.Tie as tie
+use Rattle.frames.proofs.number.store_number.Statement.{statement}
+use Rattle.frames.proofs.number.store_number.Tie as tie
 
 abbrev Inv-loop : tie.InvT-loop
 Inv-loop dst₀ at width n left₀ rest₀ dst left rest =
@@ -24,30 +25,27 @@ loop-holds c = search needs
 sub-left : tie.Need-sub-left Inv-loop μ-loop
 sub-left c = search needs
 
-cast-dst : tie.Need-cast-dst Inv-loop μ-loop
-cast-dst c = search needs
+cast-store-behind : tie.Need-cast-store-behind Inv-loop μ-loop
+cast-store-behind c = search needs
 
-add-dst : tie.Need-add-dst Inv-loop μ-loop
-add-dst c = search needs
-
-slice-write-dst : tie.Need-slice-write-dst Inv-loop μ-loop
-slice-write-dst c = search needs
+store-behind-requires : tie.Need-store-behind-requires Inv-loop μ-loop
+store-behind-requires c κs = search needs
 
 loop-less : tie.Need-loop-less Inv-loop μ-loop
 loop-less c = search needs
 
 loop-again : tie.Need-loop-again Inv-loop μ-loop
 loop-again c =
-    let l = c .before .loop in
-    let a = c .before .before .args in
+    let p = c .before .before .store-behind in
+    let l = c .before .before .before .before .before .loop in
+    let a = c .before .before .before .before .before .before .before .args in
     let e : suc (l .left - 1) ≡ l .left = omega arith in (
       search needs,
-      simp length-set (l .inv .1),
-      number-turn (l .dst) (a .at) (l .left - 1) (l .rest) ∙ rw e (l .inv .2),
+      ap length (p .ensures) ∙ simp length-set (l .inv .1),
+      ap (λ (d : List ℕ). sets d (a .at) (bytesOf (l .left - 1) (l .rest / 256))) (p .ensures)
+          ∙ number-turn (l .dst) (a .at) (l .left - 1) (l .rest)
+          ∙ rw e (l .inv .2),
     )
-
-add-result : tie.Need-add-result Inv-loop μ-loop
-add-result c = search needs
 
 same-length : tie.Need-same-length Inv-loop μ-loop
 same-length c = c .before .loop .inv .1
@@ -57,21 +55,19 @@ unfolding bytesOf
 returns c =
     let l = c .before .loop in
     let z : l .left ≡ 0 = omega arith in
-    (search needs, rw z at (l .inv .2))
+    rw z at (l .inv .2)
 
-pub put-number-spec : {M : Type 1} → statement M
-put-number-spec =
+pub store-number-spec : {M : Type 1} → statement M
+store-number-spec =
     tie.close
     (tie.spec
     Inv-loop
     μ-loop
     loop-holds
     sub-left
-    cast-dst
-    add-dst
-    slice-write-dst
+    cast-store-behind
+    store-behind-requires
     loop-less
     loop-again
-    add-result
     same-length
     returns)
