@@ -1,5 +1,3 @@
-pub mod FormLaws
-pub mod WordLaws
 pub mod RowLaws
 pub mod FrameBothWays
-pub mod TextLaws
+pub mod WidthLaws

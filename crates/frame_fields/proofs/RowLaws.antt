@@ -15,12 +15,12 @@ use Rattle.base.proofs.Numbers.{number-before}
 use Rattle.fields.specs.Fields.{width8}
 use Rattle.text.specs.Hex.{hexPairs, hexOf, hexLeft}
 use Rattle.text.specs.declared.hex.Hex.the-variants.{Bytes, NotHex, NoRoom}
-use Rattle.frame_fields.specs.Chars.{chars}
-use Rattle.frame_fields.specs.Words.{wordAt, wordEnd, starts}
-use Rattle.frame_fields.specs.Table.{fieldsFrom}
+use Rattle.frame_words.specs.Chars.{chars}
+use Rattle.frame_words.specs.Words.{wordAt, wordEnd, starts}
+use Rattle.frame_words.specs.Table.{fieldsFrom}
 use Rattle.frame_fields.specs.Rows.{valueIn, numberIn, fieldValue, fieldAt, readFields, dataWord, dataAt}
 use Rattle.frame_fields.specs.declared.rows.Value.the-variants.{Number, Wrong}
-use Rattle.frame_fields.proofs.WordLaws.{word-part}
+use Rattle.frame_words.proofs.WordLaws.{word-part}
 
 -- ---- the number of n bytes
 pub eight : (n : ℕ) → n ≤ 8 → width8 n ≡ n

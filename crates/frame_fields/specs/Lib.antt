@@ -1,7 +1,2 @@
-pub mod Chars
-pub mod Words
-pub mod Table
-pub mod Texts
 pub mod Rows
-pub mod Called
 pub mod Numbers

@@ -7,8 +7,8 @@ use lib.ListN.{getD}
 use Rattle.base.specs.Choice.{choose}
 use Rattle.frames.specs.declared.kinds.Frame.{Frame}
 use Rattle.frames.specs.declared.kinds.Frame.the-variants.{Sync, SafeRead, SafeWrite, PlainRead, PlainWrite, SafeResponse, PlainSyncResponse, PlainResponse, TidAssignment, SidAssignment, SidAssignment4, Acknowledgement, Invariants}
-use Rattle.frame_fields.specs.declared.table.Kind.{Kind}
-use Rattle.frame_fields.specs.declared.table.Kind.the-variants as kind
+use Rattle.frame_words.specs.declared.table.Kind.{Kind}
+use Rattle.frame_words.specs.declared.table.Kind.the-variants as kind
 
 abbrev pub kindOf : Frame → Kind
 kindOf (Sync src cyc) = kind.Sync

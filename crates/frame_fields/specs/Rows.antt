@@ -7,9 +7,9 @@ use lib.ListN.{length, drop, set}
 use Rattle.base.specs.Choice.{choose}
 use Rattle.base.specs.Bytes.{numberAt}
 use Rattle.text.specs.Hex.{hexPairs}
-use Rattle.frame_fields.specs.Chars.{chars}
-use Rattle.frame_fields.specs.Words.{wordAt, wordEnd, starts}
-use Rattle.frame_fields.specs.Table.{Field}
+use Rattle.frame_words.specs.Chars.{chars}
+use Rattle.frame_words.specs.Words.{wordAt, wordEnd, starts}
+use Rattle.frame_words.specs.Table.{Field}
 use Rattle.frame_fields.specs.declared.rows.Value.{Value}
 use Rattle.frame_fields.specs.declared.rows.Value.the-variants.{Number, Wrong}
 use Rattle.frame_fields.specs.declared.rows.Row.{Row}

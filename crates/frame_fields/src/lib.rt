@@ -1,7 +1,3 @@
-// A frame as a line of text: its kind by a word, and its fields by names and hex digits.
-pub mod called;
+// A frame as a line of text: its fields read as the table has them, and their numbers.
 pub mod numbers;
 pub mod rows;
-pub mod table;
-pub mod texts;
-pub mod words;

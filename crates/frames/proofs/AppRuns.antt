@@ -7,7 +7,6 @@ use native.Mathlib.Omega.{arith}
 use native.Mathlib.Nat.{zero-add}
 use lib.ListN.{length, take, drop, length-append}
 use lib.Seq.{sets, take-at}
-use Rattle.base.specs.Choice.{choose}
 use Rattle.base.specs.Bytes.{bytesOf}
 use Rattle.base.proofs.Choosing.{choose-true, choose-false}
 use Rattle.base.proofs.Numbers.{length-bytesOf}

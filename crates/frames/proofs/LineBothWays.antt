@@ -40,7 +40,8 @@ abbrev pub dataOf : Frame → Received → List ℕ
 dataOf f r = dataIn f (take (r .len) (r .bytes))
 
 -- ---- sent, then received
-app-range : (a : ℕ) (f : Frame) (xs : List ℕ) → Sized f → fits a f (length xs) ≡ true → (4 ≤ length (appOf f xs)) × (length (appOf f xs) ≤ 269)
+-- the application data of a frame that the writer takes have 4 to 269 bytes
+pub app-range : (a : ℕ) (f : Frame) (xs : List ℕ) → Sized f → fits a f (length xs) ≡ true → (4 ≤ length (appOf f xs)) × (length (appOf f xs) ≤ 269)
 unfolding fits
 app-range a f xs z e =
     let w = and-parts (fieldsFit a f) (eqb (length xs) (dataLen f)) e in

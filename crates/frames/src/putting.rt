@@ -6,6 +6,7 @@ ghost use lib.Seq.{sets};
 ghost use Rattle.base.specs.Bytes.{bytesOf};
 ghost use Rattle.fields.specs.Fields.{laid};
 ghost use Rattle.frames.specs.Putting.{fieldsIn};
+use crate::number::store_number;
 
 // Up to eight fields: their widths in bytes, their numbers, and how many there are.
 pub struct Fields {
@@ -14,18 +15,12 @@ pub struct Fields {
     pub count: usize,
 }
 
-// A number from a place on; the next place.
+// A number from a place on, where there is room; the next place.
 pub fn put_number(dst: &mut [u8], at: usize, width: usize, n: u64) -> usize
     requires { ⌜ at + width ≤ length (now dst) ⌝ }
     ensures { λ r. ⌜ (r ≡ at + width) × (now (dst .exit) ≡ sets (now (dst .entry)) at (bytesOf width n)) ⌝ }
 {
-    let mut left = width;
-    let mut rest = n;
-    while 0 < left {
-        left -= 1;
-        dst[at + left] = (rest % 256) as u8;
-        rest = rest / 256;
-    }
+    store_number(dst, at, width, n);
     at + width
 }
 

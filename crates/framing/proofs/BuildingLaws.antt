@@ -15,9 +15,9 @@ use Rattle.frames.specs.Kinds.{appOf}
 use Rattle.frames.specs.Writing.{frameLine, writtenOf}
 use Rattle.frames.specs.declared.kinds.Frame.{Frame}
 use Rattle.frames.proofs.Sending.{sent-says}
-use Rattle.frame_fields.specs.Texts.{noText, put}
+use Rattle.frame_words.specs.Texts.{noText, put}
 use Rattle.framing.specs.Answers.{byLaid, frameBuilt}
-use Rattle.frame_fields.specs.declared.texts.Text.{Text}
+use Rattle.frame_words.specs.declared.texts.Text.{Text}
 
 module _ (a : ℕ) (f : Frame) (xs : List ℕ) where
   line : List ℕ

@@ -16,8 +16,8 @@ use Rattle.frames.specs.Writing.{fits, frameLine}
 use Rattle.frames.specs.declared.kinds.Frame.{Frame}
 use Rattle.frames.proofs.Sending.{sent}
 use Rattle.frames.proofs.WritingLaws.{app-bounds}
-use Rattle.frame_fields.specs.Texts.{textIn}
-use Rattle.frame_fields.proofs.TextLaws.{text-is}
+use Rattle.frame_words.specs.Texts.{textIn}
+use Rattle.frame_words.proofs.TextLaws.{text-is}
 use Rattle.framing.specs.Answers.{frameBuilt}
 use Rattle.framing.proofs.BuildingLaws.{built-by}
 

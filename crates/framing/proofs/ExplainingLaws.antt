@@ -1,4 +1,5 @@
--- Laws of a frame that is explained: a turn of the loop over fields, with data and without. Assumes nothing.
+-- Laws of a frame that is explained: a turn of the loop over fields, with data and without, and how many data there are.
+-- Assumes nothing.
 use mathlib.Core.Path.{_≡_, ap, _∙_}
 use mathlib.Core.Bool.{true, false}
 use mathlib.Core.List.{List, [], _∷_}
@@ -10,16 +11,19 @@ use Rattle.base.specs.Bytes.{bytesOf}
 use Rattle.base.proofs.Numbers.{length-bytesOf}
 use Rattle.base.proofs.Sets.{sets-front}
 use Rattle.text.specs.Putting.{hexText}
+use Rattle.frames.specs.Kinds.{dataLen}
+use Rattle.frames.specs.Sized.{Sized}
 use Rattle.frames.specs.declared.kinds.Frame.{Frame}
+use Rattle.frames.specs.declared.kinds.Frame.the-variants.{Sync, SafeRead, SafeWrite, PlainRead, PlainWrite, SafeResponse, PlainSyncResponse, PlainResponse, TidAssignment, SidAssignment, SidAssignment4, Acknowledgement, Invariants}
 use Rattle.frames.specs.Reading.{readFrame}
 use Rattle.frames.specs.declared.reading.Received.{Received}
-use Rattle.frame_fields.specs.Chars.{chars}
-use Rattle.frame_fields.specs.Words.{wordAt}
-use Rattle.frame_fields.specs.Table.{fieldsFrom, fieldsOf, hasData, kindWord}
-use Rattle.frame_fields.specs.Texts.{noText, put, puts}
+use Rattle.frame_words.specs.Chars.{chars}
+use Rattle.frame_words.specs.Words.{wordAt}
+use Rattle.frame_words.specs.Table.{fieldsFrom, fieldsOf, hasData, kindWord}
+use Rattle.frame_words.specs.Texts.{noText, put, puts}
 use Rattle.frame_fields.specs.Numbers.{kindOf, numbersOf}
 use Rattle.framing.specs.Answers.{putField, putFields, dataOf, frameText, byReading, explainedText}
-use Rattle.frame_fields.specs.declared.texts.Text.{Text}
+use Rattle.frame_words.specs.declared.texts.Text.{Text}
 use Rattle.frame_fields.proofs.RowLaws.{fields-turn, fields-end}
 
 -- the w bytes of a number, stored at the start
@@ -53,3 +57,19 @@ module _ (a : ℕ) (f : Frame) (bytes : List ℕ) where
 pub explained-by : (body : List ℕ) (r : Received) (t : Text) → r ≡ readFrame body → t ≡ byReading (r .reading) (r .bytes) → t ≡ explainedText body
 unfolding explainedText
 explained-by body r t e p = rw (← e) p
+
+-- a frame that the code holds has at most 255 data bytes
+pub data-most : (f : Frame) → Sized f → dataLen f ≤ 255
+data-most (Sync src cyc) h = omega arith
+data-most (SafeRead dest src cyc seq datl add) h = omega arith
+data-most (SafeWrite dest src cyc seq datl add) h = omega arith
+data-most (PlainRead src datl add) h = omega arith
+data-most (PlainWrite src datl add) h = omega arith
+data-most (SafeResponse dest src cyc seq cmd datl add stat) h = omega arith
+data-most (PlainSyncResponse src datl add stat) h = omega arith
+data-most (PlainResponse src cmd datl add) h = omega arith
+data-most (TidAssignment src iid tid) h = omega arith
+data-most (SidAssignment src sec mac sid) h = omega arith
+data-most (SidAssignment4 src sec mac sid sid2 src2) h = omega arith
+data-most (Acknowledgement src dst sec mac) h = omega arith
+data-most (Invariants dest src cyc seq config logic) h = omega arith

@@ -4,13 +4,13 @@ use mathlib.Core.Bool.{true, false}
 use mathlib.Core.List.{List}
 use Prim.Native.Nat.{ℕ, _+_, _-_, _*_, _≤_, _<_}
 use lib.ListN.{getD}
-use Rattle.frame_fields.specs.Chars.{chars}
-use Rattle.frame_fields.specs.Words.{wordAt}
-use Rattle.frame_fields.specs.Table.{fieldsFrom, fieldsOf, hasData, kindWord}
-use Rattle.frame_fields.specs.Texts.{noText, put}
+use Rattle.frame_words.specs.Chars.{chars}
+use Rattle.frame_words.specs.Words.{wordAt}
+use Rattle.frame_words.specs.Table.{fieldsFrom, fieldsOf, hasData, kindWord}
+use Rattle.frame_words.specs.Texts.{noText, put}
 use Rattle.framing.specs.Answers.{formField, formFields, formText}
-use Rattle.frame_fields.specs.declared.table.Kind.{Kind}
-use Rattle.frame_fields.specs.declared.texts.Text.{Text}
+use Rattle.frame_words.specs.declared.table.Kind.{Kind}
+use Rattle.frame_words.specs.declared.texts.Text.{Text}
 use Rattle.frame_fields.proofs.RowLaws.{fields-turn, fields-end}
 
 module _ (names digits : List ℕ) (i n : ℕ) (t : Text) where

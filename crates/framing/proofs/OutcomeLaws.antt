@@ -8,17 +8,17 @@ use native.Mathlib.Omega.{arith}
 use borrow.Author.Tests.{lt-ltb, le-ltb}
 use lib.ListN.{length, drop, getD, replicate}
 use Rattle.text.specs.Hex.{hexPairs}
-use Rattle.frame_fields.specs.Chars.{chars}
-use Rattle.frame_fields.specs.Words.{wordAt, wordEnd}
-use Rattle.frame_fields.specs.Table.{fieldsFrom, fieldsIn, fieldsOf, hasData}
+use Rattle.frame_words.specs.Chars.{chars}
+use Rattle.frame_words.specs.Words.{wordAt, wordEnd}
+use Rattle.frame_words.specs.Table.{fieldsFrom, fieldsIn, fieldsOf, hasData}
 use Rattle.frame_fields.specs.Rows.{readFields, dataAt}
 use Rattle.framing.specs.Said.{wants}
-use Rattle.frame_fields.specs.Called.{called}
+use Rattle.frame_words.specs.Called.{called}
 use Rattle.framing.specs.Outcome.{build, complain, atEnd, byData, withData, wantsField, byRow, byKind, byBytes, byBody, byWord, outcomeOf}
-use Rattle.frame_fields.specs.declared.table.Kind.{Kind}
-use Rattle.frame_fields.specs.declared.table.Form.{Form}
+use Rattle.frame_words.specs.declared.table.Kind.{Kind}
+use Rattle.frame_words.specs.declared.table.Form.{Form}
 use Rattle.frame_fields.specs.declared.rows.Row.{Row}
-use Rattle.frame_fields.specs.declared.called.Called.{Called}
+use Rattle.frame_words.specs.declared.called.Called.{Called}
 
 -- ---- the end
 module _ (s : List ℕ) (at : ℕ) (k : Kind) (vs : List ℕ) where

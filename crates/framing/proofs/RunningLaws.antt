@@ -14,8 +14,8 @@ use Rattle.text.specs.Putting.{putAt, placeAfter}
 use Rattle.console.specs.Reading.{Holds}
 use Rattle.console.specs.Answering.{Answers}
 use Rattle.console.proofs.HoldsLaws.{holds-short, holds-long}
-use Rattle.frame_fields.specs.Texts.{noText, put, textIn}
-use Rattle.frame_fields.specs.declared.texts.Text.{Text}
+use Rattle.frame_words.specs.Texts.{noText, put, textIn}
+use Rattle.frame_words.specs.declared.texts.Text.{Text}
 use Rattle.framing.specs.Outcome.{outcomeOf}
 use Rattle.framing.specs.Answers.{answerOf, overText}
 use Rattle.framing.specs.Running.{numberOf, numberText, answered, answeredIn, answering}

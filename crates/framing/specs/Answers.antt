@@ -15,14 +15,14 @@ use Rattle.frames.specs.Writing.{writtenOf}
 use Rattle.frames.specs.declared.kinds.Frame.{Frame}
 use Rattle.frames.specs.declared.reading.Reading.{Reading}
 use Rattle.frames.specs.declared.reading.Reading.the-variants.{Taken, Length, Stuffing, Size, Fcs, Reserved, Kind, Form, Check}
-use Rattle.frame_fields.specs.Chars.{chars}
-use Rattle.frame_fields.specs.Table.{Field, kindWord, fieldsOf, hasData}
+use Rattle.frame_words.specs.Chars.{chars}
+use Rattle.frame_words.specs.Table.{Field, kindWord, fieldsOf, hasData}
 use Rattle.frame_fields.specs.Numbers.{kindOf, numbersOf, frameOf, addressOf, datlOf}
-use Rattle.frame_fields.specs.Texts.{noText, put, puts}
+use Rattle.frame_words.specs.Texts.{noText, put, puts}
 use Rattle.framing.specs.Said.{badText, refusal, refusedText, refusedReading}
 use Rattle.framing.specs.Outcome.{Outcome, build, explain, complain, outcomeOf}
-use Rattle.frame_fields.specs.declared.table.Kind as table
-use Rattle.frame_fields.specs.declared.texts.Text.{Text}
+use Rattle.frame_words.specs.declared.table.Kind as table
+use Rattle.frame_words.specs.declared.texts.Text.{Text}
 
 -- ---- a frame built: the body as it stands between the flags, or the writer's refusal, 5 or 8
 -- 600 bytes are room for any frame

@@ -6,16 +6,16 @@ use lib.Dec.{ltb}
 use lib.ListN.{length, drop, replicate}
 use Rattle.base.specs.Choice.{choose}
 use Rattle.text.specs.Hex.{hexPairs}
-use Rattle.frame_fields.specs.Chars.{chars}
-use Rattle.frame_fields.specs.Words.{wordAt, wordEnd}
-use Rattle.frame_fields.specs.Table.{Field, fieldsOf, hasData}
+use Rattle.frame_words.specs.Chars.{chars}
+use Rattle.frame_words.specs.Words.{wordAt, wordEnd}
+use Rattle.frame_words.specs.Table.{Field, fieldsOf, hasData}
 use Rattle.frame_fields.specs.Rows.{readFields, dataAt}
 use Rattle.framing.specs.Said.{wants}
-use Rattle.frame_fields.specs.Called.{called}
-use Rattle.frame_fields.specs.declared.table.Kind.{Kind}
+use Rattle.frame_words.specs.Called.{called}
+use Rattle.frame_words.specs.declared.table.Kind.{Kind}
 use Rattle.frame_fields.specs.declared.rows.Row.{Row}
-use Rattle.frame_fields.specs.declared.called.Called.{Called}
-use Rattle.frame_fields.specs.declared.called.Called.the-variants.{Named, Body, Other}
+use Rattle.frame_words.specs.declared.called.Called.{Called}
+use Rattle.frame_words.specs.declared.called.Called.the-variants.{Named, Body, Other}
 
 -- a frame by its kind, the numbers of its fields and its data; the bytes of a body; or words of complaint, in pieces
 pub data Outcome : Type 0 where

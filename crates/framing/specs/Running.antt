@@ -6,8 +6,8 @@ use lib.ListN.{length, take}
 use Rattle.base.specs.Choice.{choose}
 use Rattle.text.specs.Decimal.{decimalText}
 use Rattle.console.specs.Programs.{Program}
-use Rattle.frame_fields.specs.Texts.{noText, put, textIn}
-use Rattle.frame_fields.specs.declared.texts.Text.{Text}
+use Rattle.frame_words.specs.Texts.{noText, put, textIn}
+use Rattle.frame_words.specs.declared.texts.Text.{Text}
 use Rattle.framing.specs.Answers.{answerOf, overText}
 
 -- the number of the line behind so many, in 64 bits, and as text

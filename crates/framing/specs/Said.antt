@@ -5,9 +5,9 @@ use Rattle.text.specs.Decimal.{decimalText}
 use Rattle.frames.specs.Reading.{readingNumber}
 use Rattle.frames.specs.declared.reading.Reading.{Reading}
 use Rattle.frames.specs.declared.reading.Reading.the-variants.{Taken, Length, Stuffing, Size, Fcs, Reserved, Kind, Form, Check}
-use Rattle.frame_fields.specs.Chars.{chars}
-use Rattle.frame_fields.specs.Texts.{noText, puts}
-use Rattle.frame_fields.specs.declared.texts.Text.{Text}
+use Rattle.frame_words.specs.Chars.{chars}
+use Rattle.frame_words.specs.Texts.{noText, puts}
+use Rattle.frame_words.specs.declared.texts.Text.{Text}
 
 -- the line's number and the first thing that is wrong
 abbrev pub badStart : List ℕ → Text

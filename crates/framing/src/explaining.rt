@@ -1,42 +1,27 @@
 // A body explained: its kind, its fields and its data, or the reader's refusal.
 ghost use mathlib.Core.Path.{_≡_};
-ghost use Prim.Native.Nat.{_*_, _+_, _/_, _≤_, _<_};
+ghost use Prim.Native.Nat.{_*_, _/_, _≤_, _<_};
 ghost use lib.ListN.{length, getD};
-ghost use lib.Seq.{sets};
 ghost use Rattle.base.specs.Choice.{choose};
 ghost use Rattle.base.specs.Bytes.{bytesOf};
 ghost use Rattle.fields.specs.Fields.{width8};
 ghost use Rattle.text.specs.Putting.{hexText};
-ghost use Rattle.frames.specs.Kinds.{isSafe, dataLen};
-ghost use Rattle.frame_fields.specs.Words.{wordAt};
-ghost use Rattle.frame_fields.specs.Table.{fieldsIn};
-ghost use Rattle.frame_fields.specs.Texts.{put};
+ghost use Rattle.frames.specs.Kinds.{isSafe};
+ghost use Rattle.frame_words.specs.Words.{wordAt};
+ghost use Rattle.frame_words.specs.Table.{fieldsIn};
+ghost use Rattle.frame_words.specs.Texts.{put};
 ghost use Rattle.framing.specs.Answers.{putField, putFields, dataOf, frameText, explainedText};
 use crate::said;
 use frame_fields::numbers;
-use frame_fields::table;
-use frame_fields::table::Form;
-use frame_fields::texts;
-use frame_fields::texts::Text;
+use frame_words::table;
+use frame_words::table::Form;
+use frame_words::texts;
+use frame_words::texts::Text;
 use frames::kinds;
 use frames::kinds::Frame;
+use frames::number;
 use frames::reading;
 use frames::reading::Reading;
-
-// The low bytes of a number from a place on, high byte first; the next place.
-fn store_number(dst: &mut [u8], at: usize, width: usize, n: u64) -> usize
-    requires { ⌜ at + width ≤ length (now dst) ⌝ }
-    ensures { λ r. ⌜ (r ≡ at + width) × (now (dst .exit) ≡ sets (now (dst .entry)) at (bytesOf width n)) ⌝ }
-{
-    let mut left = width;
-    let mut rest = n;
-    while 0 < left {
-        left -= 1;
-        dst[at + left] = (rest % 256) as u8;
-        rest = rest / 256;
-    }
-    at + width
-}
 
 // The bytes of so many hex digits, at most 8.
 fn width_of(digits: u8) -> usize
@@ -55,7 +40,7 @@ fn add_number(t: Text, digits: u8, v: u64) -> Text
 {
     let n = width_of(digits);
     let mut bytes = [0u8; 8];
-    store_number(&mut bytes, 0, n, v);
+    number::store_number(&mut bytes, 0, n, v);
     texts::add_hex(t, &bytes[..n])
 }
 
@@ -84,7 +69,7 @@ fn add_fields(t: Text, form: Form, v: [u64; 8]) -> Text
     u
 }
 
-// Where the data bytes of a frame stand in its application data, and how many they are.
+// Where the data bytes of a frame stand in its application data.
 fn data_place(f: Frame) -> usize
     ensures { λ r. ⌜ (r ≡ choose (isSafe f) 12 5) × (r ≤ 12) ⌝ }
 {
@@ -94,32 +79,12 @@ fn data_place(f: Frame) -> usize
     5
 }
 
-fn data_count(f: Frame) -> u8
-    ensures { λ r. ⌜ r ≡ dataLen f ⌝ }
-{
-    match f {
-        Frame::Sync { .. } => 0,
-        Frame::SafeRead { .. } => 0,
-        Frame::SafeWrite { datl, .. } => datl,
-        Frame::PlainRead { .. } => 0,
-        Frame::PlainWrite { datl, .. } => datl,
-        Frame::SafeResponse { datl, .. } => datl,
-        Frame::PlainSyncResponse { datl, .. } => datl,
-        Frame::PlainResponse { datl, .. } => datl,
-        Frame::TidAssignment { .. } => 0,
-        Frame::SidAssignment { .. } => 0,
-        Frame::SidAssignment4 { .. } => 0,
-        Frame::Acknowledgement { .. } => 0,
-        Frame::Invariants { .. } => 0,
-    }
-}
-
 fn add_data(t: Text, f: Frame, bytes: &[u8]) -> Text
     requires { ⌜ 268 ≤ length (now bytes) ⌝ }
     ensures { λ r. ⌜ r ≡ put t (hexText (dataOf f (now (bytes .entry)))) ⌝ }
 {
     let from = data_place(f);
-    let end = from + data_count(f) as usize;
+    let end = from + kinds::data_len(f);
     texts::add_hex(t, &bytes[from..end])
 }
 

@@ -2,16 +2,16 @@
 ghost use mathlib.Core.Path.{_≡_};
 ghost use Prim.Native.Nat.{_*_, _≤_, _<_};
 ghost use lib.ListN.{take, getD};
-ghost use Rattle.frame_fields.specs.Chars.{chars};
-ghost use Rattle.frame_fields.specs.Words.{wordAt};
-ghost use Rattle.frame_fields.specs.Table.{fieldsIn};
-ghost use Rattle.frame_fields.specs.Texts.{put};
+ghost use Rattle.frame_words.specs.Chars.{chars};
+ghost use Rattle.frame_words.specs.Words.{wordAt};
+ghost use Rattle.frame_words.specs.Table.{fieldsIn};
+ghost use Rattle.frame_words.specs.Texts.{put};
 ghost use Rattle.framing.specs.Answers.{formField, formFields, formText};
-use frame_fields::table;
-use frame_fields::table::Form;
-use frame_fields::table::Kind;
-use frame_fields::texts;
-use frame_fields::texts::Text;
+use frame_words::table;
+use frame_words::table::Form;
+use frame_words::table::Kind;
+use frame_words::texts;
+use frame_words::texts::Text;
 
 // So many x, at most 16.
 fn add_places(t: Text, digits: u8) -> Text

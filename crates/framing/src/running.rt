@@ -6,7 +6,7 @@ ghost use lib.Dec.{ltb};
 ghost use lib.ListN.{length, take};
 ghost use Rattle.base.specs.Choice.{choose};
 ghost use Rattle.text.specs.Putting.{putAt, placeAfter};
-ghost use Rattle.frame_fields.specs.Texts.{textIn};
+ghost use Rattle.frame_words.specs.Texts.{textIn};
 ghost use Rattle.console.specs.Answering.{Spoken};
 ghost use Rattle.framing.specs.Answers.{answerOf, overText};
 ghost use Rattle.framing.specs.Running.{numberOf, answeredIn};
@@ -16,9 +16,9 @@ use crate::grammar;
 use console::blocks;
 use console::lines;
 use console::lines::Cursor;
-use frame_fields::table::Kind;
-use frame_fields::texts;
-use frame_fields::texts::Text;
+use frame_words::table::Kind;
+use frame_words::texts;
+use frame_words::texts::Text;
 use text::lines::LF;
 
 // A line of `len` characters, or one that is longer than there is room for.

@@ -4,11 +4,11 @@ ghost use mathlib.Core.List.{[], _∷_};
 ghost use Prim.Native.Nat.{_*_, _<_};
 ghost use lib.ListN.{getD};
 ghost use Rattle.frames.specs.Reading.{readingNumber};
-ghost use Rattle.frame_fields.specs.Words.{wordAt};
+ghost use Rattle.frame_words.specs.Words.{wordAt};
 ghost use Rattle.framing.specs.Said.{badStart, badText, wants, refusedStart, refusedReading};
-use frame_fields::table::Form;
-use frame_fields::texts;
-use frame_fields::texts::Text;
+use frame_words::table::Form;
+use frame_words::texts;
+use frame_words::texts::Text;
 use frames::reading::Reading;
 use frames::reading::reading_number;
 

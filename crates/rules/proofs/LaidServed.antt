@@ -4,7 +4,6 @@ use mathlib.Core.Bool.{true, false, _||_}
 use mathlib.Core.List.{List}
 use mathlib.Core.Path.{_≡_, refl, ap, _∙_}
 use Prim.Native.Nat.{ℕ, _/_, _%_, _≤_}
-use native.Mathlib.Omega.{arith}
 use borrow.Author.Tests.{eqb-true, le-ltb}
 use lib.Dec.{eqb}
 use lib.ListN.{length}
@@ -23,8 +22,7 @@ use Rattle.frames.specs.declared.reading.Read.{Read}
 use Rattle.frames.specs.declared.reading.Read.the-variants.{Taken}
 use Rattle.frames.proofs.BothWays.{written-then-read}
 use Rattle.frames.proofs.Fits.{fitting}
-use Rattle.frames.proofs.Parts.{app-length}
-use Rattle.frames.proofs.Sizes.{in-body}
+use Rattle.frames.proofs.LineBothWays.{app-range}
 use Rattle.frames.proofs.Standing.{Stands, written-stands}
 use Rattle.rules.specs.Answers.{elsewhere, unsound}
 use Rattle.rules.specs.Calls.{leastRoom, frameCall}
@@ -86,12 +84,6 @@ module _ (addr : ℕ) (f : Frame) (xs : List ℕ) (l : Layable addr f xs) where
   stands : Stands addr (appOf f xs) f
   stands = written-stands addr f xs (fitting addr f (l .sized) field-fit) field-fit data-fit
 
-  app-range : (4 ≤ length (appOf f xs)) × (length (appOf f xs) ≤ 269)
-  app-range =
-      let r = in-body addr f (l .sized) field-fit in
-      let n = app-length f xs data-fit in
-      (omega arith, omega arith)
-
   read-back : agentRead addr (appOf f xs) ≡ Taken f
   unfolding agentRead
   read-back =
@@ -103,7 +95,7 @@ module _ (addr : ℕ) (f : Frame) (xs : List ℕ) (l : Layable addr f xs) where
     unfolding onFrame onBody onApp
     body-acts =
         let ys : List ℕ = appOf f xs in
-        let r = app-range in
+        let r = app-range addr f xs (l .sized) (l .fit) in
         let h : ℕ = fcsOf addr ys / 256 in
         let w : ℕ = fcsOf addr ys % 256 in
         ap (onBody port a) (laid-then-read addr ys (l .free) (r .0) (r .1))

@@ -2,7 +2,7 @@
 use mathlib.Core.Path.{refl}
 use Prim.Native.Nat.{_+_}
 use native.Mathlib.Omega.{arith}
-use Rattle.frame_fields.proofs.WordLaws.{word-within}
+use Rattle.frame_words.proofs.WordLaws.{word-within}
 use Rattle.frame_fields.proofs.RowLaws.{data-missing, data-there}
 use borrow.Author.Needs.{needs}
 use Rattle.frame_fields.proofs.rows.data_at.Statement.{statement}

@@ -2,7 +2,7 @@
 use mathlib.Core.Path.{_∙_}
 use Prim.Native.Nat.{_+_}
 use native.Mathlib.Omega.{arith}
-use Rattle.frame_fields.proofs.WordLaws.{word-within}
+use Rattle.frame_words.proofs.WordLaws.{word-within}
 use Rattle.frame_fields.proofs.RowLaws.{field-missing, field-there}
 use borrow.Author.Needs.{needs}
 use Rattle.frame_fields.proofs.rows.field_at.Statement.{statement}

@@ -2,7 +2,7 @@ use lib.ListN.{length}
 use mathlib.Core.Path.{_≡_}
 use Prim.Native.Nat.{_*_}
 use native.Mathlib.Omega.{arith}
-use Rattle.frame_fields.proofs.WordLaws.{word-within, word-part}
+use Rattle.frame_words.proofs.WordLaws.{word-within, word-part}
 use borrow.Author.Needs.{needs}
 use Rattle.frame_fields.proofs.rows.field_of.Statement.{statement}
 use Rattle.frame_fields.proofs.rows.field_of.Tie as tie

@@ -1,6 +1,6 @@
 -- `rows::read_fields` meets its contract. Assumes nothing.
 use borrow.Author.Needs.{needs}
-use Rattle.frame_fields.proofs.FormLaws.{form-holds}
+use Rattle.frame_words.proofs.FormLaws.{form-holds}
 use Rattle.frame_fields.proofs.rows.read_fields.Statement.{statement}
 use Rattle.frame_fields.proofs.rows.read_fields.Tie as tie
 

@@ -3,7 +3,7 @@ use borrow.Author.Needs.{needs}
 use mathlib.Core.Path.{_≡_, sym, _∙_}
 use Prim.Native.Nat.{_-_}
 use lib.ListN.{replicate}
-use Rattle.frame_fields.specs.Table.{fieldsFrom, fieldsIn}
+use Rattle.frame_words.specs.Table.{fieldsFrom, fieldsIn}
 use Rattle.frame_fields.specs.Rows.{readFields}
 use Rattle.frame_fields.proofs.RowLaws.{row-end, row-wrong, row-number}
 use Rattle.frame_fields.proofs.rows.read_form.Statement.{statement}

@@ -2,8 +2,8 @@
 use mathlib.Core.Path.{sym, ap, _∙_}
 use native.Mathlib.Omega.{arith}
 use lib.Seq.{length-take-le}
-use Rattle.frame_fields.specs.Called.{called}
-use Rattle.frame_fields.proofs.WordLaws.{word-first, word-within}
+use Rattle.frame_words.specs.Called.{called}
+use Rattle.frame_words.proofs.WordLaws.{word-first, word-within}
 use Rattle.framing.proofs.OutcomeLaws.{line-over, line-by}
 use borrow.Author.Needs.{needs}
 use Rattle.framing.proofs.answering.answer.Statement.{statement}

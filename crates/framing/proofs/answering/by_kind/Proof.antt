@@ -2,7 +2,7 @@
 use mathlib.Core.Path.{sym, _∙_}
 use native.Mathlib.Omega.{arith}
 use Rattle.framing.proofs.OutcomeLaws.{kind-wants, kind-data, kind-plain}
-use Rattle.frame_fields.proofs.FormLaws.{form-holds}
+use Rattle.frame_words.proofs.FormLaws.{form-holds}
 use borrow.Author.Needs.{needs}
 use Rattle.framing.proofs.answering.by_kind.Statement.{statement}
 use Rattle.framing.proofs.answering.by_kind.Tie as tie

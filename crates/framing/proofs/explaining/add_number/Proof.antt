@@ -29,7 +29,7 @@ add-hex-requires : tie.Need-add-hex-requires
 add-hex-requires c κs = search needs
 
 returns : tie.Need-returns
-returns c = rw (c .add-hex .ensures, c .before .before .before .store-number .ensures .1, stored-bytes _ _ _ (c .before .before .before .before .before .width-of .ensures .1), c .before .before .before .before .before .width-of .ensures .0)
+returns c = rw (c .add-hex .ensures, c .before .before .before .store-number .ensures, stored-bytes _ _ _ (c .before .before .before .before .before .width-of .ensures .1), c .before .before .before .before .before .width-of .ensures .0)
 
 pub add-number-spec : {M : Type 1} → statement M
 add-number-spec =

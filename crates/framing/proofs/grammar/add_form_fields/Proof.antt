@@ -3,7 +3,7 @@ use borrow.Author.Needs.{needs}
 use mathlib.Core.Path.{_≡_, sym, _∙_}
 use Prim.Native.Nat.{_-_}
 use native.Mathlib.Nat.{sub-zero}
-use Rattle.frame_fields.specs.Table.{fieldsFrom, fieldsIn}
+use Rattle.frame_words.specs.Table.{fieldsFrom, fieldsIn}
 use Rattle.framing.specs.Answers.{formFields}
 use Rattle.framing.proofs.GrammarLaws.{form-turn, form-end}
 use Rattle.framing.proofs.grammar.add_form_fields.Statement.{statement}

@@ -1,7 +1,7 @@
 -- `grammar::form_text` meets its contract: what each piece adds, and the form of the kind. Assumes nothing.
 use mathlib.Core.Path.{sym, _∙_}
 use Rattle.framing.proofs.GrammarLaws.{form-data, form-plain}
-use Rattle.frame_fields.proofs.FormLaws.{form-holds}
+use Rattle.frame_words.proofs.FormLaws.{form-holds}
 use borrow.Author.Needs.{needs}
 use Rattle.framing.proofs.grammar.form_text.Statement.{statement}
 use Rattle.framing.proofs.grammar.form_text.Tie as tie

@@ -1,0 +1,5 @@
+pub mod Chars
+pub mod Words
+pub mod Table
+pub mod Texts
+pub mod Called

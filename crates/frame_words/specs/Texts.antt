@@ -1,0 +1,21 @@
+-- A text put together piece by piece: each is added whole, or not at all where it does not fit. Assumes nothing.
+use mathlib.Core.List.{List, [], _∷_}
+use Prim.Native.Nat.{ℕ}
+use lib.ListN.{length, replicate, take}
+use Rattle.text.specs.Putting.{putAt, placeAfter}
+use Rattle.frame_words.specs.declared.texts.Text.{Text}
+
+unfoldable pub noText : Text
+noText = record { bytes = replicate 1200 0; len = 0 }
+
+unfoldable pub put : Text → List ℕ → Text
+put t s = record { bytes = putAt (t .bytes) (t .len) s; len = placeAfter (length (t .bytes)) (t .len) s }
+
+-- what was put together
+abbrev pub textIn : Text → List ℕ
+textIn t = take (t .len) (t .bytes)
+
+-- pieces, one behind the other
+abbrev pub puts : Text → List (List ℕ) → Text
+puts t [] = t
+puts t (s ∷ ss) = puts (put t s) ss
