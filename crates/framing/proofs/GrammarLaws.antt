@@ -1,14 +1,14 @@
--- Laws of the grammar's lines: a turn of the loop over fields, with data and without. Assumes nothing.
-use mathlib.Core.Path.{_≡_}
+-- Laws of the grammar's lines: a turn of the loop over fields, with data and without; a line behind others, and the page. Assumes nothing.
+use mathlib.Core.Path.{_≡_, ap, _∙_}
 use mathlib.Core.Bool.{true, false}
-use mathlib.Core.List.{List}
+use mathlib.Core.List.{List, [], _∷_}
 use Prim.Native.Nat.{ℕ, _+_, _-_, _*_, _≤_, _<_}
 use lib.ListN.{getD}
 use Rattle.frame_words.specs.Chars.{chars}
 use Rattle.frame_words.specs.Words.{wordAt}
 use Rattle.frame_words.specs.Table.{fieldsFrom, fieldsOf, hasData, kindWord}
 use Rattle.frame_words.specs.Texts.{noText, put}
-use Rattle.framing.specs.Answers.{formField, formFields, formText}
+use Rattle.framing.specs.Answers.{formField, formFields, formText, formLines, requests, replies, others, grammarText}
 use Rattle.frame_words.specs.declared.table.Kind.{Kind}
 use Rattle.frame_words.specs.declared.texts.Text.{Text}
 use Rattle.frame_fields.proofs.RowLaws.{fields-turn, fields-end}
@@ -23,10 +23,19 @@ module _ (names digits : List ℕ) (i n : ℕ) (t : Text) where
   unfolding formFields
   form-end h = rw (fields-end names digits i n h)
 
-pub form-data : (k : Kind) → hasData k ≡ true → put (formFields (fieldsOf k) (put noText (kindWord k))) (chars " data=xx...") ≡ formText k
+pub form-data : (t : Text) (k : Kind) → hasData k ≡ true → put (formFields (fieldsOf k) (put t (kindWord k))) (chars " data=xx...") ≡ formText t k
 unfolding formText
-form-data k e = rw e
+form-data t k e = rw e
 
-pub form-plain : (k : Kind) → hasData k ≡ false → formFields (fieldsOf k) (put noText (kindWord k)) ≡ formText k
+pub form-plain : (t : Text) (k : Kind) → hasData k ≡ false → formFields (fieldsOf k) (put t (kindWord k)) ≡ formText t k
 unfolding formText
-form-plain k e = rw e
+form-plain t k e = rw e
+
+pub line-behind : (k : Kind) (t u r : Text) → u ≡ t → r ≡ put (formText u k) (0x0A ∷ []) → r ≡ put (formText t k) (0x0A ∷ [])
+line-behind k t u r e f = f ∙ ap (λ (v : Text). put (formText v k) (0x0A ∷ [])) e
+
+pub page-whole : (none a b d r : Text) → none ≡ noText → a ≡ formLines requests none → b ≡ formLines replies a → d ≡ formLines others b
+    → r ≡ put d (chars "body xx...\n") → r ≡ grammarText
+unfolding grammarText
+page-whole none a b d r e f g h i =
+    i ∙ ap (λ (v : Text). put v (chars "body xx...\n")) (h ∙ ap (formLines others) (g ∙ ap (formLines replies) (f ∙ ap (formLines requests) e)))

@@ -1,24 +1,27 @@
--- Laws of a line's answer, as the program puts it together and as the definition has it. Assumes nothing.
+-- Laws of a line's answer, as the program puts it together and as the definition has it, and of the text at the end. Assumes nothing.
 use mathlib.Core.Path.{_≡_, refl, sym, ap, ap₂, _∙_}
-use mathlib.Core.Bool.{Bool, true, false}
+use mathlib.Core.Bool.{Bool, true, false, _||_}
 use mathlib.Core.List.{List, [], _∷_}
-use Prim.Native.Nat.{ℕ, _≤_, _<_}
+use Prim.Native.Nat.{ℕ, _-_, _≤_, _<_}
 use native.Mathlib.Omega.{arith}
-use borrow.Author.Tests.{lt-ltb, le-ltb, ltb-true, ltb-false}
-use lib.Dec.{ltb}
+use borrow.Author.Tests.{lt-ltb, le-ltb, ltb-true, ltb-false, ne-eqb}
+use lib.Dec.{eqb, ltb}
 use lib.ListN.{length, take, length-take}
 use Rattle.base.specs.Choice.{choose}
 use Rattle.base.proofs.Choosing.{choose-true, choose-false}
 use Rattle.text.specs.Decimal.{decimalText}
 use Rattle.text.specs.Putting.{putAt, placeAfter}
-use Rattle.console.specs.Reading.{Holds}
-use Rattle.console.specs.Answering.{Answers}
+use Rattle.console.specs.Reading.{Holds, Next}
+use Rattle.console.specs.Answering.{Stands, Answers, Whole}
+use Rattle.console.specs.Cursors.{answered as moved}
+use Rattle.console.specs.declared.lines.Cursor.{Cursor}
+use Rattle.console.proofs.AnsweringLaws.{spoken, whole-more}
 use Rattle.console.proofs.HoldsLaws.{holds-short, holds-long}
 use Rattle.frame_words.specs.Texts.{noText, put, textIn}
 use Rattle.frame_words.specs.declared.texts.Text.{Text}
 use Rattle.framing.specs.Outcome.{outcomeOf}
-use Rattle.framing.specs.Answers.{answerOf, overText}
-use Rattle.framing.specs.Running.{numberOf, numberText, answered, answeredIn, answering}
+use Rattle.framing.specs.Answers.{answerOf, overText, grammarText}
+use Rattle.framing.specs.Running.{numberOf, numberText, answered, answeredIn, endText, answering}
 
 -- a line that is too long is answered as one of which nothing is kept
 over : (number chars : List ℕ) → 1200 < length chars → answerOf number chars ≡ overText number
@@ -44,14 +47,43 @@ held-answered n line len cs z h = by (ltb 1200 (length cs)) refl
 pub text-fits : (t : Text) → length (t .bytes) ≡ 1200 → length (textIn t) ≤ 1200
 text-fits t e = omega (arith, length-take (t .len) (t .bytes))
 
-pub line-answered : (n : ℕ) (line : List ℕ) (len : ℕ) (out : List ℕ) (to n′ : ℕ) (out′ : List ℕ) (to′ : ℕ) → length line ≡ 1200 → n′ ≡ numberOf n
-    → (length (textIn (answeredIn n line len)) ≤ 1200) × (to′ ≡ placeAfter (length out) to (textIn (answeredIn n line len)))
-    × (out′ ≡ putAt out to (textIn (answeredIn n line len)))
+pub line-answered : (n : ℕ) (line : List ℕ) (len : ℕ) (out : List ℕ) (to : ℕ) (t : Text) (n′ : ℕ) (out′ : List ℕ) (to′ : ℕ) → length line ≡ 1200
+    → n′ ≡ numberOf n → t ≡ answeredIn n line len → (length (textIn t) ≤ 1200) × (to′ ≡ placeAfter (length out) to (textIn t)) × (out′ ≡ putAt out to (textIn t))
     → Answers answering n line len out to n′ out′ to′
-line-answered n line len out to n′ out′ to′ e q a cs h =
-    let k : answeredIn n line len ≡ answered n cs = held-answered n line len cs e h in
+line-answered n line len out to t n′ out′ to′ e q w a cs h =
+    let k : t ≡ answered n cs = w ∙ held-answered n line len cs e h in
     let m : length (textIn (answered n cs)) ≤ 1200 = rw k at (a .0) in
     (q, omega arith, rw k at (a .1), rw k at (a .2))
+
+-- ---- the end: the grammar, where there was no line
+pub end-first : (n : ℕ) → n ≡ 0 → grammarText ≡ endText n
+unfolding endText
+end-first n e = sym (choose-true _ _ (ap (λ (m : ℕ). eqb m 0) e))
+
+pub end-later : (n : ℕ) → (n ≡ 0 → ⊥) → noText ≡ endText n
+unfolding endText
+end-later n h = sym (choose-false _ _ (ne-eqb n 0 h))
+
+pub end-none : (n : ℕ) → 0 < n → textIn (endText n) ≡ []
+unfolding noText
+end-none n h = ap textIn (sym (end-later n (λ e. omega arith)))
+
+pub end-put : (n : ℕ) (buffer out : List ℕ) (c : Cursor) (buffer′ line′ : List ℕ) (r : Cursor) (t : Text) (out′ : List ℕ) (to′ : ℕ) → Stands answering n buffer out c
+    → Next buffer out c buffer′ line′ r → r .whole ≡ false → r .ended ≡ true → t ≡ endText n
+    → (length (textIn t) ≤ 1200) × (to′ ≡ placeAfter (length out) (r .to) (textIn t)) × (out′ ≡ putAt out (r .to) (textIn t))
+    → Whole answering buffer′ out′ (moved r to′)
+end-put n buffer out c buffer′ line′ r t out′ to′ x g w e q a =
+    let h = g .gives (ap₂ _||_ w e) .1 in
+    let m : length (textIn (endText n)) ≤ 1200 = rw q at (a .0) in
+    whole-more answering n buffer′ out r out′ to′ (spoken answering n buffer out c buffer′ line′ r x g w e) (omega (arith, h .room, m)) (rw q at (a .1)) (rw q at (a .2))
+
+-- an input that has not ended
+pub not-both : {A : Type 0} (b : Bool) → b ≡ true → b ≡ false → A
+not-both b e f = absurd (let z : _≡_ {A = ℕ} 0 1 = cc in omega arith)
+
+-- each line leaves one less that can be counted
+pub fewer-left : (n m : ℕ) → n < 0xFFFFFFFFFFFFFFFF → m ≡ numberOf n → 0xFFFFFFFFFFFFFFFF - m < 0xFFFFFFFFFFFFFFFF - n
+fewer-left n m h e = omega arith
 
 -- the answer is put together
 pub put-together : (n : ℕ) (line : List ℕ) (len : ℕ) (none number : Text) (m k : ℕ) (t r : Text) → none ≡ noText → m ≡ numberOf n → number ≡ put none (decimalText m)

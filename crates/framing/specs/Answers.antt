@@ -22,6 +22,7 @@ use Rattle.frame_words.specs.Texts.{noText, put, puts}
 use Rattle.framing.specs.Said.{badText, refusal, refusedText, refusedReading}
 use Rattle.framing.specs.Outcome.{Outcome, build, explain, complain, outcomeOf}
 use Rattle.frame_words.specs.declared.table.Kind as table
+use Rattle.frame_words.specs.declared.table.Kind.the-variants as kind
 use Rattle.frame_words.specs.declared.texts.Text.{Text}
 
 -- ---- a frame built: the body as it stands between the flags, or the writer's refusal, 5 or 8
@@ -92,7 +93,25 @@ unfoldable pub formFields : List Field → Text → Text
 formFields [] t = t
 formFields (f ∷ fs) t = formFields fs (formField t f)
 
-unfoldable pub formText : table.Kind → Text
-formText k =
-    choose (hasData k) (put (formFields (fieldsOf k) (put noText (kindWord k))) (chars " data=xx..."))
-    (formFields (fieldsOf k) (put noText (kindWord k)))
+-- the form of a kind, put behind a text; and with its LF
+unfoldable pub formText : Text → table.Kind → Text
+formText t k =
+    choose (hasData k) (put (formFields (fieldsOf k) (put t (kindWord k))) (chars " data=xx..."))
+    (formFields (fieldsOf k) (put t (kindWord k)))
+
+abbrev pub formLines : List table.Kind → Text → Text
+formLines [] t = t
+formLines (k ∷ ks) t = formLines ks (put (formText t k) (0x0A ∷ []))
+
+abbrev pub requests : List table.Kind
+requests = kind.Sync ∷ kind.Read ∷ kind.Write ∷ kind.PlainRead ∷ kind.PlainWrite ∷ []
+
+abbrev pub replies : List table.Kind
+replies = kind.Response ∷ kind.PlainSyncResponse ∷ kind.PlainResponse ∷ []
+
+abbrev pub others : List table.Kind
+others = kind.Tid ∷ kind.Sid ∷ kind.Sid4 ∷ kind.Ack ∷ kind.Invariants ∷ []
+
+-- THE PAGE: a line for each kind, and that of a body
+unfoldable pub grammarText : Text
+grammarText = put (formLines others (formLines replies (formLines requests noText))) (chars "body xx...\n")

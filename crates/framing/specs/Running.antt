@@ -1,14 +1,14 @@
 -- The program that answers a line each, numbered from 1. Assumes nothing.
 use mathlib.Core.List.{List, [], _∷_}
 use Prim.Native.Nat.{ℕ, _+_, _%_, _^_}
-use lib.Dec.{ltb}
+use lib.Dec.{eqb, ltb}
 use lib.ListN.{length, take}
 use Rattle.base.specs.Choice.{choose}
 use Rattle.text.specs.Decimal.{decimalText}
 use Rattle.console.specs.Programs.{Program}
 use Rattle.frame_words.specs.Texts.{noText, put, textIn}
 use Rattle.frame_words.specs.declared.texts.Text.{Text}
-use Rattle.framing.specs.Answers.{answerOf, overText}
+use Rattle.framing.specs.Answers.{answerOf, overText, grammarText}
 
 -- the number of the line behind so many, in 64 bits, and as text
 abbrev pub numberOf : ℕ → ℕ
@@ -21,8 +21,12 @@ numberText n = textIn (put noText (decimalText (numberOf n)))
 unfoldable pub answered : ℕ → List ℕ → Text
 answered n chars = put (answerOf (numberText n) chars) (0x0A ∷ [])
 
+-- at the end, behind so many lines: the grammar where there were none
+unfoldable pub endText : ℕ → Text
+endText n = choose (eqb n 0) grammarText noText
+
 abbrev pub answering : Program ℕ
-answering = record { start = 0; first = []; next = λ n l. numberOf n; says = λ n l. textIn (answered n l); ends = λ n. [] }
+answering = record { start = 0; first = []; next = λ n l. numberOf n; says = λ n l. textIn (answered n l); ends = λ n. textIn (endText n) }
 
 -- a line of len characters, of which a buffer keeps the first
 unfoldable pub answeredIn : ℕ → List ℕ → ℕ → Text

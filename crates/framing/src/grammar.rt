@@ -1,17 +1,19 @@
 // The grammar: a line for each kind, with x for each digit.
 ghost use mathlib.Core.Path.{_≡_};
+ghost use mathlib.Core.List.{[], _∷_};
 ghost use Prim.Native.Nat.{_*_, _≤_, _<_};
 ghost use lib.ListN.{take, getD};
 ghost use Rattle.frame_words.specs.Chars.{chars};
 ghost use Rattle.frame_words.specs.Words.{wordAt};
 ghost use Rattle.frame_words.specs.Table.{fieldsIn};
 ghost use Rattle.frame_words.specs.Texts.{put};
-ghost use Rattle.framing.specs.Answers.{formField, formFields, formText};
+ghost use Rattle.framing.specs.Answers.{formField, formFields, formText, formLines, requests, replies, others, grammarText};
 use frame_words::table;
 use frame_words::table::Form;
 use frame_words::table::Kind;
 use frame_words::texts;
 use frame_words::texts::Text;
+use text::lines::LF;
 
 // So many x, at most 16.
 fn add_places(t: Text, digits: u8) -> Text
@@ -49,16 +51,61 @@ fn add_form_fields(t: Text, form: Form) -> Text
     u
 }
 
-// The line of a kind.
-pub fn form_text(kind: Kind) -> Text
-    ensures { λ r. ⌜ r ≡ formText kind ⌝ }
+// The form of a kind.
+fn add_form(t: Text, kind: Kind) -> Text
+    ensures { λ r. ⌜ r ≡ formText t kind ⌝ }
 {
     let form = table::form_of(kind);
     let word = form.word;
-    let t = texts::add_word(texts::no_text(), &word, 0);
-    let u = add_form_fields(t, form);
+    let u = add_form_fields(texts::add_word(t, &word, 0), form);
     if table::has_data(kind) {
         return texts::add(u, b" data=xx...");
     }
     u
+}
+
+// The same with its LF.
+fn add_line(t: Text, kind: Kind) -> Text
+    ensures { λ r. ⌜ r ≡ put (formText t kind) (0x0A ∷ []) ⌝ }
+{
+    texts::add(add_form(t, kind), &[LF])
+}
+
+// The requests.
+fn add_requests(t: Text) -> Text
+    ensures { λ r. ⌜ r ≡ formLines requests t ⌝ }
+{
+    let sync = add_line(t, Kind::Sync);
+    let read = add_line(sync, Kind::Read);
+    let write = add_line(read, Kind::Write);
+    let plain_read = add_line(write, Kind::PlainRead);
+    add_line(plain_read, Kind::PlainWrite)
+}
+
+// What answers them.
+fn add_replies(t: Text) -> Text
+    ensures { λ r. ⌜ r ≡ formLines replies t ⌝ }
+{
+    let response = add_line(t, Kind::Response);
+    let plain_sync = add_line(response, Kind::PlainSyncResponse);
+    add_line(plain_sync, Kind::PlainResponse)
+}
+
+// The assignments and the module's invariants.
+fn add_others(t: Text) -> Text
+    ensures { λ r. ⌜ r ≡ formLines others t ⌝ }
+{
+    let tid = add_line(t, Kind::Tid);
+    let sid = add_line(tid, Kind::Sid);
+    let sid4 = add_line(sid, Kind::Sid4);
+    let ack = add_line(sid4, Kind::Ack);
+    add_line(ack, Kind::Invariants)
+}
+
+// The whole page: at most 1,200 characters.
+pub fn grammar_text() -> Text
+    ensures { λ r. ⌜ r ≡ grammarText ⌝ }
+{
+    let forms = add_others(add_replies(add_requests(texts::no_text())));
+    texts::add(forms, b"body xx...\n")
 }
