@@ -25,7 +25,7 @@ line-refused port a b verdict.Length k = refl
 line-refused port a b verdict.Stuffing k = refl
 line-refused port a b verdict.Size k = refl
 line-refused port a b verdict.Check k = refl
-line-refused port a b verdict.Taken k = absurd (miss (1 ∷ 2 ∷ 3 ∷ 4 ∷ []) 0 tt k)
+line-refused port a b verdict.Valid k = absurd (miss (1 ∷ 2 ∷ 3 ∷ 4 ∷ []) 0 tt k)
 line-refused port a b verdict.Reserved k = absurd (miss (1 ∷ 2 ∷ 3 ∷ 4 ∷ []) 5 tt k)
 
 -- 8 and 9 leave no trace
@@ -33,5 +33,5 @@ pub read-refused : (port : ℕ) (a : Agent) (s : List ℕ) (r : Read) → OneOf 
     → does (readNumber r) a ≡ onRead port a r s
 read-refused port a s read.Form k = refl
 read-refused port a s read.Check k = refl
-read-refused port a s (read.Taken f) k = absurd (miss (2 ∷ 3 ∷ []) 0 tt k)
+read-refused port a s (read.Valid f) k = absurd (miss (2 ∷ 3 ∷ []) 0 tt k)
 read-refused port a s read.Kind k = absurd (miss (2 ∷ 3 ∷ []) 1 tt k)

@@ -14,10 +14,10 @@ use Rattle.frames.specs.Reading.{readApp}
 use Rattle.frames.specs.declared.kinds.Frame.{Frame}
 use Rattle.frames.specs.declared.kinds.Frame.the-variants.{Sync, SafeRead, SafeWrite, PlainRead, PlainWrite, SafeResponse, PlainSyncResponse, PlainResponse, TidAssignment, SidAssignment, SidAssignment4, Acknowledgement, Invariants}
 use Rattle.frames.specs.declared.reading.Read.{Read}
-use Rattle.frames.specs.declared.reading.Read.the-variants.{Taken, Kind, Form, Check}
+use Rattle.frames.specs.declared.reading.Read.the-variants.{Valid, Kind, Form, Check}
 use Rattle.frames.proofs.Fits.{FittingFrame}
 use Rattle.frames.proofs.Standing.{Stands, stands-fitting}
-use Rattle.frames.proofs.TakenStands.{stands}
+use Rattle.frames.proofs.ValidStands.{stands}
 use Rattle.frames.proofs.kinds.Frame.{the-type}
 use Rattle.rules.specs.Answers.{typ}
 use Rattle.rules.specs.FrameCall.{onKind, served, isSil4, agentRead}
@@ -36,9 +36,9 @@ module _ (addr : ℕ) (s : List ℕ) where
   by-kind (SidAssignment src sec mac sid) st h = omega arith
   by-kind (PlainRead src datl add) st h = tt
   by-kind (PlainWrite src datl add) st h = tt
-  by-kind (SafeResponse dest src cyc seq cmd datl add stat) st h = tt
+  by-kind (SafeResponse dest src cyc seq «com» datl add stat) st h = tt
   by-kind (PlainSyncResponse src datl add stat) st h = tt
-  by-kind (PlainResponse src cmd datl add) st h = tt
+  by-kind (PlainResponse src «com» datl add) st h = tt
   by-kind (TidAssignment src iid tid) st h = tt
   by-kind (SidAssignment4 src sec mac sid sid2 src2) st h = tt
   by-kind (Acknowledgement src dst sec mac) st h = tt
@@ -46,7 +46,7 @@ module _ (addr : ℕ) (s : List ℕ) where
 
   module _ (bs : Bytes s) where
     by-read : (r : Read) → readApp addr s ≡ r → WholeRead r s
-    by-read (Taken f) e = let st = stands addr s bs f e in by-kind f st (stands-fitting addr s f bs st)
+    by-read (Valid f) e = let st = stands addr s bs f e in by-kind f st (stands-fitting addr s f bs st)
     by-read Kind e = tt
     by-read Form e = tt
     by-read Check e = tt
@@ -79,9 +79,9 @@ module _ (port : ℕ) (a : Agent) (s : List ℕ) where
   pub not-served : (f : Frame) → OneOf (3 ∷ 4 ∷ 5 ∷ 6 ∷ 7 ∷ 11 ∷ 12 ∷ []) (tagOf the-type f) → does typ (formatMarked a) ≡ onKind port a f (dataIn f s)
   not-served (PlainRead src datl add) k = refl
   not-served (PlainWrite src datl add) k = refl
-  not-served (SafeResponse dest src cyc seq cmd datl add stat) k = refl
+  not-served (SafeResponse dest src cyc seq «com» datl add stat) k = refl
   not-served (PlainSyncResponse src datl add stat) k = refl
-  not-served (PlainResponse src cmd datl add) k = refl
+  not-served (PlainResponse src «com» datl add) k = refl
   not-served (Acknowledgement src dst sec mac) k = refl
   not-served (Invariants dest src cyc seq config logic) k = refl
   not-served (Sync src cyc) k = absurd (miss (3 ∷ 4 ∷ 5 ∷ 6 ∷ 7 ∷ 11 ∷ 12 ∷ []) 0 tt k)

@@ -6,7 +6,7 @@ use lib.ListN.{length}
 use Rattle.frames.specs.declared.kinds.Frame.{Frame}
 use Rattle.frames.specs.declared.kinds.Frame.the-variants.{Sync, SafeRead, SafeWrite, PlainRead, PlainWrite, SafeResponse, PlainSyncResponse, PlainResponse, TidAssignment, SidAssignment, SidAssignment4, Acknowledgement, Invariants}
 use Rattle.frames.specs.declared.reading.Read.{Read}
-use Rattle.frames.specs.declared.reading.Read.the-variants.{Taken, Kind, Form, Check}
+use Rattle.frames.specs.declared.reading.Read.the-variants.{Valid, Kind, Form, Check}
 
 -- where the code looks: a source, and the data of a write
 abbrev pub Whole : Frame → List ℕ → Type 0
@@ -16,16 +16,16 @@ Whole (SafeWrite dest src cyc seq datl add) s = (src < 2 ^ 24) × (12 + datl ≤
 Whole (SidAssignment src sec mac sid) s = src < 2 ^ 24
 Whole (PlainRead src datl add) s = Unit
 Whole (PlainWrite src datl add) s = Unit
-Whole (SafeResponse dest src cyc seq cmd datl add stat) s = Unit
+Whole (SafeResponse dest src cyc seq «com» datl add stat) s = Unit
 Whole (PlainSyncResponse src datl add stat) s = Unit
-Whole (PlainResponse src cmd datl add) s = Unit
+Whole (PlainResponse src «com» datl add) s = Unit
 Whole (TidAssignment src iid tid) s = Unit
 Whole (SidAssignment4 src sec mac sid sid2 src2) s = Unit
 Whole (Acknowledgement src dst sec mac) s = Unit
 Whole (Invariants dest src cyc seq config logic) s = Unit
 
 abbrev pub WholeRead : Read → List ℕ → Type 0
-WholeRead (Taken f) s = Whole f s
+WholeRead (Valid f) s = Whole f s
 WholeRead Kind s = Unit
 WholeRead Form s = Unit
 WholeRead Check s = Unit

@@ -108,7 +108,7 @@ fn on_read(port: u8, a: Agent, read: Read, s: &[u8]) -> Deed
     ensures { λ r. ⌜ (r ≡ onRead port a read (now (s .entry))) × Fitting (r .reply) ⌝ }
 {
     match read {
-        Read::Taken(f) => on_kind(port, a, f, s),
+        Read::Valid(f) => on_kind(port, a, f, s),
         Read::Kind => does(TYP, format_marked(a)),
         _ => does(read_number(read), a),
     }
@@ -142,7 +142,7 @@ fn on_body(port: u8, a: Agent, b: Body) -> Deed
     let bytes = b.bytes;
     let len = b.len;
     match verdict {
-        Verdict::Taken => on_app(port, a, addr, &bytes[..len]),
+        Verdict::Valid => on_app(port, a, addr, &bytes[..len]),
         Verdict::Reserved => does(RESERVED, a),
         _ => does(verdict_number(verdict), line_marked(a)),
     }

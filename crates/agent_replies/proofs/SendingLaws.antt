@@ -36,14 +36,14 @@ use Rattle.agent_replies.specs.declared.sending.Part.{Part}
 -- ---- the registers that a reply shows
 -- none, of a frame that is no safe response
 pub no-part : (f : Frame) → OneOf (0 ∷ 1 ∷ 2 ∷ 3 ∷ 4 ∷ 6 ∷ 7 ∷ 8 ∷ 9 ∷ 10 ∷ 11 ∷ 12 ∷ []) (tagOf the-type f) → _≡_ {A = Part} (record { add = 0; datl = 0; stat = 0 }) (partOf f)
-no-part (SafeResponse dest src cyc seq cmd datl add stat) k = absurd (miss (0 ∷ 1 ∷ 2 ∷ 3 ∷ 4 ∷ 6 ∷ 7 ∷ 8 ∷ 9 ∷ 10 ∷ 11 ∷ 12 ∷ []) 5 tt k)
+no-part (SafeResponse dest src cyc seq «com» datl add stat) k = absurd (miss (0 ∷ 1 ∷ 2 ∷ 3 ∷ 4 ∷ 6 ∷ 7 ∷ 8 ∷ 9 ∷ 10 ∷ 11 ∷ 12 ∷ []) 5 tt k)
 no-part (Sync src cyc) k = refl
 no-part (SafeRead dest src cyc seq datl add) k = refl
 no-part (SafeWrite dest src cyc seq datl add) k = refl
 no-part (PlainRead src datl add) k = refl
 no-part (PlainWrite src datl add) k = refl
 no-part (PlainSyncResponse src datl add stat) k = refl
-no-part (PlainResponse src cmd datl add) k = refl
+no-part (PlainResponse src «com» datl add) k = refl
 no-part (TidAssignment src iid tid) k = refl
 no-part (SidAssignment src sec mac sid) k = refl
 no-part (SidAssignment4 src sec mac sid sid2 src2) k = refl
@@ -59,11 +59,11 @@ record Shown (a : Agent) (f : Frame) : Type 0 where
 
 shown : (a : Agent) (f : Frame) → Laying f → Shown a f
 unfolding fieldsFit
-shown a (SafeResponse dest src cyc seq cmd datl add stat) h = record {
+shown a (SafeResponse dest src cyc seq «com» datl add stat) h = record {
   inside = h .2 .1;
   many = refl;
   fit =
-      and-true (is24 dest && is24 src) (safeCom cmd datl)
+      and-true (is24 dest && is24 src) (safeCom «com» datl)
       (and-true (is24 dest) (is24 src) (lt-ltb dest 0x1000000 (h .0)) (lt-ltb src 0x1000000 (h .1))) (h .2 .0);
   same = refl;
 }
@@ -79,7 +79,7 @@ shown a (SafeWrite dest src cyc seq datl add) h = absurd h
 shown a (PlainRead src datl add) h = absurd h
 shown a (PlainWrite src datl add) h = absurd h
 shown a (PlainSyncResponse src datl add stat) h = absurd h
-shown a (PlainResponse src cmd datl add) h = absurd h
+shown a (PlainResponse src «com» datl add) h = absurd h
 shown a (TidAssignment src iid tid) h = absurd h
 shown a (SidAssignment src sec mac sid) h = absurd h
 shown a (SidAssignment4 src sec mac sid sid2 src2) h = absurd h

@@ -11,11 +11,11 @@ use Rattle.rules.specs.declared.Reply.the-variants.{Silent, Says}
 
 -- COM goes with DATL, and ADD + DATL is at most 256
 abbrev pub Spans : ℕ → ℕ → ℕ → Type 0
-Spans cmd datl add = (safeCom cmd datl ≡ true) × (add + datl ≤ 256)
+Spans «com» datl add = (safeCom «com» datl ≡ true) × (add + datl ≤ 256)
 
 -- the module says safe responses and acknowledgements; a SID has 24 bits
 abbrev pub Laying : Frame → Type 0
-Laying (SafeResponse dest src cyc seq cmd datl add stat) = (dest < 2 ^ 24) × (src < 2 ^ 24) × Spans cmd datl add
+Laying (SafeResponse dest src cyc seq «com» datl add stat) = (dest < 2 ^ 24) × (src < 2 ^ 24) × Spans «com» datl add
 Laying (Acknowledgement src dst sec mac) = (src < 2 ^ 24) × (dst < 2 ^ 24)
 Laying (Sync src cyc) = ⊥
 Laying (SafeRead dest src cyc seq datl add) = ⊥
@@ -23,7 +23,7 @@ Laying (SafeWrite dest src cyc seq datl add) = ⊥
 Laying (PlainRead src datl add) = ⊥
 Laying (PlainWrite src datl add) = ⊥
 Laying (PlainSyncResponse src datl add stat) = ⊥
-Laying (PlainResponse src cmd datl add) = ⊥
+Laying (PlainResponse src «com» datl add) = ⊥
 Laying (TidAssignment src iid tid) = ⊥
 Laying (SidAssignment src sec mac sid) = ⊥
 Laying (SidAssignment4 src sec mac sid sid2 src2) = ⊥

@@ -27,14 +27,14 @@ lengthIn Room = 0
 
 -- the registers that a reply shows: from ADD on, DATL of them, with STAT at 19h
 abbrev pub partOf : Frame → Part
-partOf (SafeResponse dest src cyc seq cmd datl add stat) = record { add = add; datl = datl; stat = stat }
+partOf (SafeResponse dest src cyc seq «com» datl add stat) = record { add = add; datl = datl; stat = stat }
 partOf (Sync src cyc) = record { add = 0; datl = 0; stat = 0 }
 partOf (SafeRead dest src cyc seq datl add) = record { add = 0; datl = 0; stat = 0 }
 partOf (SafeWrite dest src cyc seq datl add) = record { add = 0; datl = 0; stat = 0 }
 partOf (PlainRead src datl add) = record { add = 0; datl = 0; stat = 0 }
 partOf (PlainWrite src datl add) = record { add = 0; datl = 0; stat = 0 }
 partOf (PlainSyncResponse src datl add stat) = record { add = 0; datl = 0; stat = 0 }
-partOf (PlainResponse src cmd datl add) = record { add = 0; datl = 0; stat = 0 }
+partOf (PlainResponse src «com» datl add) = record { add = 0; datl = 0; stat = 0 }
 partOf (TidAssignment src iid tid) = record { add = 0; datl = 0; stat = 0 }
 partOf (SidAssignment src sec mac sid) = record { add = 0; datl = 0; stat = 0 }
 partOf (SidAssignment4 src sec mac sid sid2 src2) = record { add = 0; datl = 0; stat = 0 }

@@ -2,7 +2,7 @@
 use mathlib.Core.Path.{refl}
 use lib.Count.{ones, onesIn}
 use lib.Dec.{lit<}
-use Rattle.crc.specs.Crc.{polyOf, start, crcOf}
+use Rattle.crc.specs.Crc.{polyOf, crcStart, crcOf}
 use Rattle.crc.specs.declared.Poly.{Poly}
 use Rattle.crc.specs.declared.Poly.the-variants.{Fcs, Safety}
 use Rattle.crc.proofs.Bound.{poly-lt}
@@ -21,8 +21,8 @@ even-terms Safety = record { terms = poly-lt Safety; even = refl }
 
 pub bus-bursts : (poly : Poly) → SeesBursts (crcOf poly)
 unfolding crcOf
-bus-bursts poly = bursts (polyOf poly) start (with-constant poly) (lit< tt)
+bus-bursts poly = bursts (polyOf poly) crcStart (with-constant poly) (lit< tt)
 
 pub bus-odd : (poly : Poly) → SeesOdd (crcOf poly)
 unfolding crcOf
-bus-odd poly = odd (polyOf poly) start (even-terms poly) (lit< tt)
+bus-odd poly = odd (polyOf poly) crcStart (even-terms poly) (lit< tt)

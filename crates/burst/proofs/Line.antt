@@ -12,7 +12,7 @@ use Rattle.crc.specs.declared.Poly.the-variants.{Fcs}
 use Rattle.wire.specs.Stuffing.{stuff, unstuff}
 use Rattle.wire.specs.Body.{fcsOf, readBody}
 use Rattle.wire.specs.Laying.{bodyWith}
-use Rattle.wire.specs.declared.body.Verdict.the-variants.{Taken}
+use Rattle.wire.specs.declared.body.Verdict.the-variants.{Valid}
 use Rattle.wire.proofs.StuffingBothWays.{unstuff-stuff}
 use Rattle.wire.proofs.LineBytes.{stuffed-bytes}
 use Rattle.wire.proofs.BodyBothWays.{read-then-laid}
@@ -30,7 +30,7 @@ unstuffed-same : (xs ys : List ℕ) → stuff xs ≡ stuff ys → xs ≡ ys
 unstuffed-same xs ys e = Option·some-injective xs ys (sym (unstuff-stuff xs) ∙ ap unstuff e ∙ unstuff-stuff ys)
 
 -- what is read is the body of its address and data
-read-plain : (b : ℕ) (ys : List ℕ) → Bytes (b ∷ ys) → readBody (b ∷ stuff ys) .verdict ≡ Taken
+read-plain : (b : ℕ) (ys : List ℕ) → Bytes (b ∷ ys) → readBody (b ∷ stuff ys) .verdict ≡ Valid
     → b ∷ ys ≡ plain (readBody (b ∷ stuff ys) .addr) (take (readBody (b ∷ stuff ys) .len) (readBody (b ∷ stuff ys) .bytes))
 unfolding bodyWith
 read-plain b ys h t =
@@ -42,7 +42,7 @@ read-plain b ys h t =
     let rest : stuff ys ≡ stuff (xs ++ (f / 256 ∷ f % 256 ∷ [])) = ap (drop 1) e in
     ap (λ (n : ℕ). n ∷ ys) first ∙ ap (λ (l : List ℕ). r .addr ∷ l) (unstuffed-same ys (xs ++ (f / 256 ∷ f % 256 ∷ [])) rest)
 
-checked-read : (b : ℕ) (ys : List ℕ) → Bytes (b ∷ ys) → readBody (b ∷ stuff ys) .verdict ≡ Taken → Checked (crcOf Fcs) (b ∷ ys)
+checked-read : (b : ℕ) (ys : List ℕ) → Bytes (b ∷ ys) → readBody (b ∷ stuff ys) .verdict ≡ Valid → Checked (crcOf Fcs) (b ∷ ys)
 checked-read b ys h t =
     let r = readBody (b ∷ stuff ys) in
     let c = checked-plain (r .addr) (take (r .len) (r .bytes)) in

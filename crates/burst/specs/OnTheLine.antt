@@ -7,7 +7,7 @@ use lib.ListN.{length}
 use Rattle.base.specs.Bytes.{Bytes}
 use Rattle.wire.specs.Stuffing.{stuff}
 use Rattle.wire.specs.Body.{fcsOf, readBody}
-use Rattle.wire.specs.declared.body.Verdict.the-variants.{Taken}
+use Rattle.wire.specs.declared.body.Verdict.the-variants.{Valid}
 use Rattle.burst.specs.Damage.{Burst, flips}
 use Rattle.burst.specs.Promise.{longest}
 
@@ -19,7 +19,7 @@ plain a xs = a ∷ (xs ++ (fcsOf a xs / 256 ∷ fcsOf a xs % 256 ∷ []))
 pub record OnTheLine : Type 0 where
   -- a burst: only where nothing was changed is the body read
   pub burst : (i a b : ℕ) (xs ys : List ℕ) → Bytes (plain a xs) → Bytes (b ∷ ys) → Burst longest i (plain a xs) (b ∷ ys)
-      → readBody (b ∷ stuff ys) .verdict ≡ Taken → plain a xs ≡ b ∷ ys
+      → readBody (b ∷ stuff ys) .verdict ≡ Valid → plain a xs ≡ b ∷ ys
   -- an odd number of flipped bits: it is not read
   pub odd : (a b : ℕ) (xs ys : List ℕ) → Bytes (plain a xs) → Bytes (b ∷ ys) → length (plain a xs) ≡ length (b ∷ ys)
-      → flips (plain a xs) (b ∷ ys) % 2 ≡ 1 → readBody (b ∷ stuff ys) .verdict ≡ Taken → ⊥
+      → flips (plain a xs) (b ∷ ys) % 2 ≡ 1 → readBody (b ∷ stuff ys) .verdict ≡ Valid → ⊥

@@ -16,7 +16,7 @@ fn data_place(f: Frame) -> usize {
     if kinds::is_safe(f) { 12 } else { 5 }
 }
 
-// Address, kind, fields and data of a frame that was taken.
+// Address, kind, fields and data of a frame that was read.
 fn put_taken(out: &mut [u8], at: usize, addr: u8, f: Frame, bytes: &[u8]) -> usize {
     let a = putting::put_byte(out, at, addr);
     let n = fields_out::put_frame(out, a, f);
@@ -27,7 +27,7 @@ fn put_received(out: &mut [u8], r: Received) -> usize {
     let reading = r.reading;
     let bytes = r.bytes;
     let at = putting::put_byte(out, 0, reading::reading_number(reading));
-    let Reading::Taken(addr, f) = reading else {
+    let Reading::Valid(addr, f) = reading else {
         return at;
     };
     put_taken(out, at, addr, f, &bytes)

@@ -8,9 +8,9 @@ use borrow.Author.Tests.{eq-eqb, ne-eqb, eqb-true, eqb-false, ltb-true, ltb-fals
 use lib.Dec.{eqb, ltb}
 use lib.ListN.{length, take, drop, length-append, length-drop, length-take, drop-of-length-le}
 use lib.Seq.{sets, drop-drop, length-take-le}
-use Rattle.text.specs.Lines.{beforeEnd, counted, takenOf}
-use Rattle.text.specs.declared.lines.Taken.{Taken}
-use Rattle.text.specs.declared.lines.Taken.the-variants.{Line, More}
+use Rattle.text.specs.Lines.{beforeEnd, toldCount, lineEndOf}
+use Rattle.text.specs.declared.lines.LineEnd.{LineEnd}
+use Rattle.text.specs.declared.lines.LineEnd.the-variants.{Line, More}
 use Rattle.text.proofs.LineLaws.{end-other, end-lf}
 use Rattle.console.specs.Lines.{Free, joined}
 use Rattle.console.specs.Cursors.{placed, filled, part, told}
@@ -49,34 +49,34 @@ module _ (b : List ℕ) (at room len : ℕ) where
   abbrev piece : List ℕ
   piece = beforeEnd (drop at b)
 
-  taken-line : (k next : ℕ) → takenOf b at room len ≡ Line k next
-      → (at + length piece < length b) × (k ≡ counted room (len + length piece)) × (next ≡ at + length piece + 1)
-  unfolding takenOf
-  taken-line k next e = by (ltb (at + length piece) (length b)) refl
+  end-line : (k next : ℕ) → lineEndOf b at room len ≡ Line k next
+      → (at + length piece < length b) × (k ≡ toldCount room (len + length piece)) × (next ≡ at + length piece + 1)
+  unfolding lineEndOf
+  end-line k next e = by (ltb (at + length piece) (length b)) refl
     where
       by : (t : Bool) → ltb (at + length piece) (length b) ≡ t
-          → (at + length piece < length b) × (k ≡ counted room (len + length piece)) × (next ≡ at + length piece + 1)
+          → (at + length piece < length b) × (k ≡ toldCount room (len + length piece)) × (next ≡ at + length piece + 1)
       by true t = (ltb-true _ _ t, (cc), (cc))
       by false t = absurd (let z : _≡_ {A = ℕ} 0 1 = cc in omega arith)
 
-  taken-more : (k : ℕ) → takenOf b at room len ≡ More k → (length b ≤ at + length piece) × (k ≡ counted room (len + length piece))
-  unfolding takenOf
-  taken-more k e = by (ltb (at + length piece) (length b)) refl
+  end-more : (k : ℕ) → lineEndOf b at room len ≡ More k → (length b ≤ at + length piece) × (k ≡ toldCount room (len + length piece))
+  unfolding lineEndOf
+  end-more k e = by (ltb (at + length piece) (length b)) refl
     where
-      by : (t : Bool) → ltb (at + length piece) (length b) ≡ t → (length b ≤ at + length piece) × (k ≡ counted room (len + length piece))
+      by : (t : Bool) → ltb (at + length piece) (length b) ≡ t → (length b ≤ at + length piece) × (k ≡ toldCount room (len + length piece))
       by true t = absurd (let z : _≡_ {A = ℕ} 0 1 = cc in omega arith)
       by false t = (ltb-false _ _ t, (cc))
 
   -- the rest of a block: a piece of the line, its LF and what follows; or the piece alone
-  rest-line : (k next : ℕ) → takenOf b at room len ≡ Line k next → drop at b ≡ piece ++ ((0x0A ∷ []) ++ drop next b)
+  rest-line : (k next : ℕ) → lineEndOf b at room len ≡ Line k next → drop at b ≡ piece ++ ((0x0A ∷ []) ++ drop next b)
   rest-line k next e =
-      let d = taken-line k next e in
+      let d = end-line k next e in
       let n : at + suc (length piece) ≡ next = omega (arith, d .2) in
       split (drop at b) (omega (arith, d .0, length-drop at b))
       ∙ ap (λ (u : List ℕ). piece ++ (0x0A ∷ u)) (drop-drop (suc (length piece)) at b ∙ ap (λ (m : ℕ). drop m b) n)
 
-  rest-more : (k : ℕ) → takenOf b at room len ≡ More k → drop at b ≡ piece
-  rest-more k e = sym (open-end (drop at b) (omega (arith, taken-more k e .0, length-drop at b)))
+  rest-more : (k : ℕ) → lineEndOf b at room len ≡ More k → drop at b ≡ piece
+  rest-more k e = sym (open-end (drop at b) (omega (arith, end-more k e .0, length-drop at b)))
 
 -- ---- small facts
 last-more : (b : List ℕ) (bs : List (List ℕ)) (c : List ℕ) → last b (bs ++ (c ∷ [])) ≡ c
@@ -170,13 +170,13 @@ module _ (old left : List ℕ) (over : Bool) where
     bytes-so : left ++ joined (g .more) ≡ g .chars ++ rest k buffer
     bytes-so = g .bytes ∙ ap (λ (x : List ℕ). g .chars ++ (x ++ rest k buffer)) (not-whole (k .whole) (k .ended) w)
 
-    held-so : (n : ℕ) → n ≡ counted (length line) (k .len + length behind) → Holds line′ n (g .chars ++ behind)
+    held-so : (n : ℕ) → n ≡ toldCount (length line) (k .len + length behind) → Holds line′ n (g .chars ++ behind)
     held-so n e = rw (l, e) (holds-more line (k .len) (g .chars) behind (g .holds))
 
     open-so : {A : Type 0} → k .ended ≡ true → A
     open-so e = never (k .ended) e o
 
-    goes-part : (t : Taken) → takenOf (block k buffer) (k .at) (length line) (k .len) ≡ t → Goes old left over buffer line′ (part k t)
+    goes-part : (t : LineEnd) → lineEndOf (block k buffer) (k .at) (length line) (k .len) ≡ t → Goes old left over buffer line′ (part k t)
     goes-part (Line n next) e = record {
       more = g .more;
       chars = g .chars ++ behind;
@@ -186,7 +186,7 @@ module _ (old left : List ℕ) (over : Bool) where
           ∙ sym (append-assoc (g .chars) behind ((0x0A ∷ []) ++ drop next (block k buffer)))
           ∙ ap (λ (x : List ℕ). (g .chars ++ behind) ++ (x ++ drop next (block k buffer))) (ap (between true) (sym o));
       free = free-append (g .chars) behind (g .free) (free-before (rest k buffer));
-      holds = held-so n (taken-line (block k buffer) (k .at) (length line) (k .len) n next e .1);
+      holds = held-so n (end-line (block k buffer) (k .at) (length line) (k .len) n next e .1);
       now = g .now;
       done = λ z. open-so z;
       stays = g .stays;
@@ -201,22 +201,22 @@ module _ (old left : List ℕ) (over : Bool) where
           ∙ ap₂ (λ (x y : List ℕ). (g .chars ++ behind) ++ (x ++ y)) (sym (not-whole (k .whole) (k .ended) w))
           (sym (used-up (part k (More n)) buffer (omega arith)));
       free = free-append (g .chars) behind (g .free) (free-before (rest k buffer));
-      holds = held-so n (taken-more (block k buffer) (k .at) (length line) (k .len) n e .1);
+      holds = held-so n (end-more (block k buffer) (k .at) (length line) (k .len) n e .1);
       now = g .now;
       done = λ z. open-so z;
       stays = g .stays;
     }
 
     -- the place in the output does not move
-    part-to : (t : Taken) → part k t .to ≡ k .to
+    part-to : (t : LineEnd) → part k t .to ≡ k .to
     part-to (Line n next) = refl
     part-to (More n) = refl
 
-    pub goes-taken : (out : List ℕ) (to : ℕ) (r : Cursor) → Handed out to (k .to) → r ≡ part k (takenOf (block k buffer) (k .at) (length line) (k .len))
+    pub goes-cut : (out : List ℕ) (to : ℕ) (r : Cursor) → Handed out to (k .to) → r ≡ part k (lineEndOf (block k buffer) (k .at) (length line) (k .len))
         → Goes old left over buffer line′ r × Handed out to (r .to)
-    goes-taken out to r y e =
-        let q : r .to ≡ k .to = ap (λ (c : Cursor). c .to) e ∙ part-to (takenOf (block k buffer) (k .at) (length line) (k .len)) in
-        (rw e (goes-part (takenOf (block k buffer) (k .at) (length line) (k .len)) refl), rw q y)
+    goes-cut out to r y e =
+        let q : r .to ≡ k .to = ap (λ (c : Cursor). c .to) e ∙ part-to (lineEndOf (block k buffer) (k .at) (length line) (k .len)) in
+        (rw e (goes-part (lineEndOf (block k buffer) (k .at) (length line) (k .len)) refl), rw q y)
 
 pub first-room : (out : List ℕ) (c : Cursor) (to : ℕ) (k : Cursor) → k ≡ placed c to → Handed out (c .to) to → Handed out (k .to) (k .to)
 first-room out c to k e h = rw e (handed-none out to (h .room))

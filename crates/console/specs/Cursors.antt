@@ -2,8 +2,8 @@
 use mathlib.Core.Bool.{Bool, true, false, _&&_, _||_, not}
 use Prim.Native.Nat.{ℕ}
 use lib.Dec.{eqb}
-use Rattle.text.specs.declared.lines.Taken.{Taken}
-use Rattle.text.specs.declared.lines.Taken.the-variants.{Line, More}
+use Rattle.text.specs.declared.lines.LineEnd.{LineEnd}
+use Rattle.text.specs.declared.lines.LineEnd.the-variants.{Line, More}
 use Rattle.console.specs.declared.lines.Cursor.{Cursor}
 
 -- before the first block, with so much text in the output
@@ -22,7 +22,7 @@ abbrev pub filled : Cursor → ℕ → Cursor
 filled c n = record { at = 0; end = n; len = c .len; to = 0; whole = eqb n 0 && not (eqb (c .len) 0); ended = eqb n 0 }
 
 -- a block gave the rest of a line, or all that it had
-abbrev pub part : Cursor → Taken → Cursor
+abbrev pub part : Cursor → LineEnd → Cursor
 part c (Line n next) = record { at = next; end = c .end; len = n; to = c .to; whole = true; ended = c .ended }
 part c (More n) = record { at = c .end; end = c .end; len = n; to = c .to; whole = c .whole; ended = c .ended }
 

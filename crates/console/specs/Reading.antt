@@ -1,11 +1,11 @@
--- What the code has taken of its input: the bytes of blocks, up to a line's end or the input's. Assumes nothing.
+-- What the code has read of its input: the bytes of blocks, up to a line's end or the input's. Assumes nothing.
 use mathlib.Core.Path.{_≡_}
 use mathlib.Core.Bool.{Bool, true, false}
 use mathlib.Core.List.{List, [], _∷_, _++_}
 use Prim.Native.Nat.{ℕ}
 use lib.ListN.{length, take, drop}
 use lib.Seq.{sets}
-use Rattle.text.specs.Lines.{counted}
+use Rattle.text.specs.Lines.{toldCount}
 use Rattle.console.specs.Lines.{Free, joined}
 use Rattle.console.specs.Cursors.{filled, told}
 use Rattle.console.specs.Handing.{Handed}
@@ -27,7 +27,7 @@ last b (c ∷ bs) = last c bs
 pub record Holds (line : List ℕ) (len : ℕ) (chars : List ℕ) : Type 0 where
   pub base : List ℕ
   pub kept : line ≡ sets base 0 chars
-  pub told : len ≡ counted (length base) (length chars)
+  pub told : len ≡ toldCount (length base) (length chars)
 
 abbrev pub some : List ℕ → Bool
 some [] = false

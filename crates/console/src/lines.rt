@@ -2,7 +2,7 @@
 ghost use mathlib.Core.Path.{_≡_};
 ghost use lib.ListN.{length};
 ghost use lib.Seq.{sets};
-ghost use Rattle.text.specs.Lines.{takenOf, beforeEnd};
+ghost use Rattle.text.specs.Lines.{lineEndOf, beforeEnd};
 ghost use Rattle.console.specs.Cursors.{began, told};
 ghost use Rattle.console.specs.Cursors.{part as Cursors·part};
 ghost use Rattle.console.specs.Cursors.{placed as Cursors·placed};
@@ -12,7 +12,7 @@ ghost use Rattle.console.specs.Reading.{rest, block as Reading·block, F
 use crate::blocks;
 use crate::blocks::Place;
 use text::lines;
-use text::lines::Taken;
+use text::lines::LineEnd;
 
 // Where a program stands in its input and output: the place in the block, how much of the block was read, the characters of the
 // line, the place in the output; whether a whole line stands, and whether the input has ended.
@@ -90,11 +90,11 @@ fn fill(block: &mut [u8; 65536], c: Cursor) -> Cursor
 }
 
 // A block gave the rest of a line, or all that it had.
-fn part(c: Cursor, taken: Taken) -> Cursor
-    ensures { λ r. ⌜ r ≡ Cursors·part c taken ⌝ }
+fn part(c: Cursor, at_end: LineEnd) -> Cursor
+    ensures { λ r. ⌜ r ≡ Cursors·part c «at_end» ⌝ }
 {
-    match taken {
-        Taken::Line(n, next) => Cursor {
+    match at_end {
+        LineEnd::Line(n, next) => Cursor {
             at: next,
             end: c.end,
             len: n,
@@ -102,7 +102,7 @@ fn part(c: Cursor, taken: Taken) -> Cursor
             whole: true,
             ended: c.ended,
         },
-        Taken::More(n) => Cursor {
+        LineEnd::More(n) => Cursor {
             at: c.end,
             end: c.end,
             len: n,
@@ -115,11 +115,11 @@ fn part(c: Cursor, taken: Taken) -> Cursor
 
 // The rest of a line, or as much as the block has of it.
 fn take_part(block: &[u8], line: &mut [u8; 1200], c: Cursor) -> Cursor
-    ensures { λ r. ⌜ (r ≡ Cursors·part c (takenOf (Reading·block c (now (block .entry))) (c .at) (length (now (line .entry))) (c .len))) × (now (line .exit) ≡ sets (now (line .entry)) (c .len) (beforeEnd (rest c (now (block .entry))))) ⌝ }
+    ensures { λ r. ⌜ (r ≡ Cursors·part c (lineEndOf (Reading·block c (now (block .entry))) (c .at) (length (now (line .entry))) (c .len))) × (now (line .exit) ≡ sets (now (line .entry)) (c .len) (beforeEnd (rest c (now (block .entry))))) ⌝ }
 {
     let e = blocks::least(block.len(), c.end);
-    let taken = lines::take_line(&block[..e], c.at, line, c.len);
-    part(c, taken)
+    let at_end = lines::take_line(&block[..e], c.at, line, c.len);
+    part(c, at_end)
 }
 
 fn done(c: Cursor) -> bool

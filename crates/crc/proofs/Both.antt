@@ -5,7 +5,7 @@ use Prim.Native.Nat.{ℕ, _*_, _/_, _%_, _^_, _<_}
 use lib.Bits.{bitXor}
 use lib.ListN.{length}
 use Rattle.crc.specs.declared.Poly.{Poly}
-use Rattle.crc.specs.Crc.{polyOf, start, crcByte, crcFrom, crcOf, from-append}
+use Rattle.crc.specs.Crc.{polyOf, crcStart, crcByte, crcFrom, crcOf, from-append}
 use Rattle.crc.proofs.Bound.{poly-lt, from-lt}
 use Rattle.crc.proofs.Linear.{from-linear}
 use Rattle.crc.proofs.Table.{byte-table}
@@ -14,7 +14,7 @@ module _ (poly : Poly) where
   -- bytes behind bytes: the CRC goes on from the register
   pub append : (xs ys : List ℕ) → crcOf poly (xs ++ ys) ≡ crcFrom (polyOf poly) (crcOf poly xs) ys
   unfolding crcOf
-  append xs ys = from-append (polyOf poly) start xs ys
+  append xs ys = from-append (polyOf poly) crcStart xs ys
 
   -- linear: registers and lists of the same length are added bit by bit
   pub linear : (c d : ℕ) (xs ys : List ℕ) → length xs ≡ length ys → crcFrom (polyOf poly) (bitXor c d) (zipWith bitXor xs ys) ≡ bitXor (crcFrom (polyOf poly) c xs) (crcFrom (polyOf poly) d ys)

@@ -7,7 +7,7 @@ use lib.Bits.{bitXor, xor-lt}
 use Rattle.base.proofs.Xor.{choose-lt}
 use Rattle.crc.specs.declared.Poly.{Poly}
 use Rattle.crc.specs.declared.Poly.the-variants.{Fcs, Safety}
-use Rattle.crc.specs.Crc.{polyOf, start, topBit, crcBit, crcBits, crcByte, crcFrom, crcOf}
+use Rattle.crc.specs.Crc.{polyOf, crcStart, topBit, crcBit, crcBits, crcByte, crcFrom, crcOf}
 use Rattle.crc.proofs.Linear.{top-lt}
 
 module _ (p : ℕ) (terms : p < 2 ^ 16) where
@@ -36,4 +36,4 @@ poly-lt Safety = lit< tt
 
 pub of-lt : (poly : Poly) (xs : List ℕ) → crcOf poly xs < 2 ^ 16
 unfolding crcOf
-of-lt poly xs = from-lt (polyOf poly) (poly-lt poly) start xs (lit< tt)
+of-lt poly xs = from-lt (polyOf poly) (poly-lt poly) crcStart xs (lit< tt)

@@ -13,8 +13,8 @@ polyOf Fcs = 0x1021
 polyOf Safety = 0x90D9
 
 -- the start of both
-abbrev pub start : ℕ
-start = 0xFFFF
+abbrev pub crcStart : ℕ
+crcStart = 0xFFFF
 
 -- the top bit of a register of 16
 unfoldable pub topBit : ℕ → ℕ
@@ -39,7 +39,7 @@ crcFrom p c (b ∷ bs) = crcFrom p (crcByte p c b) bs
 
 -- the CRC of a list of bytes
 unfoldable pub crcOf : Poly → List ℕ → ℕ
-crcOf poly xs = crcFrom (polyOf poly) start xs
+crcOf poly xs = crcFrom (polyOf poly) crcStart xs
 
 -- the law of two lists, one behind the other
 pub from-append : (p c : ℕ) (xs ys : List ℕ) → crcFrom p c (xs ++ ys) ≡ crcFrom p (crcFrom p c xs) ys

@@ -22,7 +22,7 @@ use Rattle.rules.proofs.LowBytes.{low-stored, low-same}
 use Rattle.demand3.proofs.Effects.{commanded, fallen, runs, limits, releases, outputs, named}
 use Rattle.demand3.proofs.RegisterViews.{Apart, apart-same, apart-status, apart-middle}
 use Rattle.demand3.proofs.StoredPlaces.{stored-outside, stored-choice}
-use Rattle.demand3.proofs.Views.{Registers, View, registersOf, viewOf, SameRegisters, Agree}
+use Rattle.demand3.proofs.Views.{RegisterView, View, registersOf, viewOf, SameRegisters, Agree}
 
 -- ---- what agrees
 
@@ -31,7 +31,7 @@ by-registers : {v w : View} → v .mode ≡ w .mode → v .assigned ≡ w .assig
     → SameRegisters (v .registers) (w .registers) → Agree v w
 by-registers m a y x r = record { mode = m; assigned = a; registers = r; cycle = y; clocks = x }
 
-same-refl : (r : Registers) → SameRegisters r r
+same-refl : (r : RegisterView) → SameRegisters r r
 same-refl r = record { rep = refl; t = refl; n = refl; m = refl; out = λ i h. refl; sid = refl }
 
 pub agree-refl : (v : View) → Agree v v

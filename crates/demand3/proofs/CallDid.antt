@@ -12,7 +12,7 @@ use Rattle.frames.specs.Kinds.{dataIn}
 use Rattle.frames.specs.Writing.{is24, fieldsFit, fits}
 use Rattle.frames.specs.declared.kinds.Frame.{Frame}
 use Rattle.frames.specs.declared.kinds.Frame.the-variants.{SidAssignment}
-use Rattle.frames.specs.declared.reading.Read.the-variants.{Taken}
+use Rattle.frames.specs.declared.reading.Read.the-variants.{Valid}
 use Rattle.frames.proofs.Receiving.{appIn}
 use Rattle.rules.specs.Calls.{tickCall, Call, tick, input, frame, act}
 use Rattle.rules.specs.Good.{Good, BytesCall}
@@ -79,7 +79,7 @@ module _ {a : Agent} (good : Good a) where
     kind-did u c (accepts e) = accepted-did accepted refl c e
 
     pub frame-did : {body : List ℕ} {d : Deed} → Unheeded call
-        → ((f : Frame) → readBody body .verdict ≡ verdict.Taken → readOf body ≡ Taken f → Carries call f (dataIn f (appIn (readBody body))))
+        → ((f : Frame) → readBody body .verdict ≡ verdict.Valid → readOf body ≡ Valid f → Carries call f (dataIn f (appIn (readBody body))))
         → FrameCase a body d → Shown a call d
     frame-did {body = body} u c (unread n h) = refused u (readsSync (readOf body) && running a) n h
     frame-did u c (readAs f v e k) = kind-did u (c f v e) k

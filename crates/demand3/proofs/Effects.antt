@@ -21,24 +21,24 @@ use Rattle.rules.specs.declared.Agent.{Agent}
 use Rattle.demand3.specs.Events.{Event, aTick, aSync, aRequest, aRefusedWrite, anAssignment, nothing, eventOf, ordersRelease, writesOutputs, Request}
 use Rattle.demand3.specs.Numbers.{isAccepted, firstSeq}
 use Rattle.demand3.specs.Sharper.{Brings}
-use Rattle.demand3.proofs.Views.{Registers, Cycle, Clocks, View, viewOf, Agree}
+use Rattle.demand3.proofs.Views.{RegisterView, Cycle, Clocks, View, viewOf, Agree}
 
 -- ---- the effects, part by part
 
-abbrev cold : Registers → Registers
+abbrev cold : RegisterView → RegisterView
 cold r = record { rep = withheld; t = r .t; n = r .n; m = r .m; out = λ i. 0; sid = r .sid }
 
-abbrev withRep : ℕ → Registers → Registers
+abbrev withRep : ℕ → RegisterView → RegisterView
 withRep rep r = record { rep = rep; t = r .t; n = r .n; m = r .m; out = r .out; sid = r .sid }
 
-abbrev withLimits : ℕ → ℕ → ℕ → Registers → Registers
+abbrev withLimits : ℕ → ℕ → ℕ → RegisterView → RegisterView
 withLimits t n m r = record { rep = r .rep; t = t; n = n; m = m; out = r .out; sid = r .sid }
 
-abbrev withSid : ℕ → Registers → Registers
+abbrev withSid : ℕ → RegisterView → RegisterView
 withSid sid r = record { rep = r .rep; t = r .t; n = r .n; m = r .m; out = r .out; sid = sid }
 
 -- the bytes xs from register add on
-abbrev stored : ℕ → List ℕ → Registers → Registers
+abbrev stored : ℕ → List ℕ → RegisterView → RegisterView
 stored add xs r = record {
   rep = r .rep;
   t = r .t;
@@ -64,7 +64,7 @@ takenOne y = record { last = y .last; heard = y .heard; c = y .c; k = y .k + 1 }
 abbrev clocksOn : ℕ → Clocks → Clocks
 clocksOn mode x = record { s = choose (ltb (x .s) silenceEnd) (x .s + 1) silenceEnd; q = choose (eqb mode inRun) (x .q + 1) (x .q) }
 
-abbrev withRegisters : Registers → View → View
+abbrev withRegisters : RegisterView → View → View
 withRegisters r v = record { mode = v .mode; assigned = v .assigned; registers = r; cycle = v .cycle; clocks = v .clocks }
 
 abbrev withCycle : Cycle → View → View

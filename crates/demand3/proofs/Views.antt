@@ -11,7 +11,7 @@ use Rattle.rules.specs.State.{inRun, inFallback, nobody}
 use Rattle.rules.specs.declared.Agent.{Agent}
 
 -- what its registers show: OUT_REP, t, n, m, the outputs, the SID
-pub record Registers : Type 0 where
+pub record RegisterView : Type 0 where
   pub rep : ℕ
   pub t : ℕ
   pub n : ℕ
@@ -35,11 +35,11 @@ pub record Clocks : Type 0 where
 pub record View : Type 0 where
   pub mode : ℕ
   pub assigned : Bool
-  pub registers : Registers
+  pub registers : RegisterView
   pub cycle : Cycle
   pub clocks : Clocks
 
-abbrev pub registersOf : List ℕ → Registers
+abbrev pub registersOf : List ℕ → RegisterView
 registersOf r = record {
   rep = getD r outRep 0;
   t = getD r tcyc 0;
@@ -59,7 +59,7 @@ viewOf a = record {
 }
 
 -- two views agree, the outputs one by one
-pub record SameRegisters (x y : Registers) : Type 0 where
+pub record SameRegisters (x y : RegisterView) : Type 0 where
   pub rep : x .rep ≡ y .rep
   pub t : x .t ≡ y .t
   pub n : x .n ≡ y .n

@@ -60,7 +60,7 @@ ofFrame (Acknowledgement src dst sec mac) xs n = nothing
 ofFrame (Invariants dest src cyc seq config logic) xs n = nothing
 
 abbrev pub ofReading : Reading → List ℕ → ℕ → Event
-ofReading (reading.Taken a f) s n = ofFrame f (dataIn f s) n
+ofReading (reading.Valid a f) s n = ofFrame f (dataIn f s) n
 ofReading reading.Length s n = nothing
 ofReading reading.Stuffing s n = nothing
 ofReading reading.Size s n = nothing

@@ -7,7 +7,7 @@ use mathlib.Core.Path.{_≡_}
 use Prim.Native.Nat.{ℕ, _<_}
 use Rattle.frames.specs.Reading.{readFrame}
 use Rattle.frames.specs.declared.kinds.Frame.the-variants.{SafeRead, SafeWrite}
-use Rattle.frames.specs.declared.reading.Reading.the-variants.{Taken}
+use Rattle.frames.specs.declared.reading.Reading.the-variants.{Valid}
 use Rattle.rules.specs.Calls.{Call, frame}
 use Rattle.rules.specs.PowerUp.{powerUp}
 use Rattle.demand3.specs.Claim.{Everywhere, BytesCalls}
@@ -33,8 +33,8 @@ pub record Fresh (h : History) (r : Request) : Type 0 where
 
 -- the body reads as a safe request with these fields
 pub data Asks (body : List ℕ) (dest src cyc seq : ℕ) : Type 0 where
-  to-read : (address datl add : ℕ) → readFrame body .reading ≡ Taken address (SafeRead dest src cyc seq datl add) → Asks body dest src cyc seq
-  to-write : (address datl add : ℕ) → readFrame body .reading ≡ Taken address (SafeWrite dest src cyc seq datl add) → Asks body dest src cyc seq
+  to-read : (address datl add : ℕ) → readFrame body .reading ≡ Valid address (SafeRead dest src cyc seq datl add) → Asks body dest src cyc seq
+  to-write : (address datl add : ℕ) → readFrame body .reading ≡ Valid address (SafeWrite dest src cyc seq datl add) → Asks body dest src cyc seq
 
 -- a frame call, on any port and with any reply buffer, whose body is such a request
 pub record Brings (call : Call) (src seq : ℕ) : Type 0 where

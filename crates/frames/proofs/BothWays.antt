@@ -13,23 +13,23 @@ use Rattle.frames.specs.Kinds.{dataLen, dataIn, appOf}
 use Rattle.frames.specs.Reading.{readApp}
 use Rattle.frames.specs.Writing.{fieldsFit, fits}
 use Rattle.frames.specs.Sized.{Sized}
-use Rattle.frames.specs.declared.reading.Read.the-variants.{Taken}
+use Rattle.frames.specs.declared.reading.Read.the-variants.{Valid}
 use Rattle.frames.specs.declared.kinds.Frame.{Frame}
 use Rattle.frames.proofs.Fits.{fitting, sized}
 use Rattle.frames.proofs.Parts.{data-back}
 use Rattle.frames.proofs.Standing.{Stands, written-stands, stands-fitting, stands-length, stands-laid}
-use Rattle.frames.proofs.StandsTaken.{taken}
-use Rattle.frames.proofs.TakenStands.{stands}
+use Rattle.frames.proofs.StandsValid.{valid}
+use Rattle.frames.proofs.ValidStands.{stands}
 
 pub written-then-read : (a : ℕ) (f : Frame) (xs : List ℕ) → Sized f → fits a f (length xs) ≡ true
-    → (readApp a (appOf f xs) ≡ Taken f) × (dataIn f (appOf f xs) ≡ xs)
+    → (readApp a (appOf f xs) ≡ Valid f) × (dataIn f (appOf f xs) ≡ xs)
 unfolding fits
 written-then-read a f xs z e =
     let w = and-parts (fieldsFit a f) (eqb (length xs) (dataLen f)) e in
     let n : length xs ≡ dataLen f = eqb-true (length xs) (dataLen f) (w .1) in
-    (taken a (appOf f xs) f (written-stands a f xs (fitting a f z (w .0)) (w .0) n), data-back f xs n)
+    (valid a (appOf f xs) f (written-stands a f xs (fitting a f z (w .0)) (w .0) n), data-back f xs n)
 
-pub read-then-written : (a : ℕ) (s : List ℕ) (f : Frame) → Bytes s → readApp a s ≡ Taken f
+pub read-then-written : (a : ℕ) (s : List ℕ) (f : Frame) → Bytes s → readApp a s ≡ Valid f
     → (s ≡ appOf f (dataIn f s)) × (fits a f (length (dataIn f s)) ≡ true) × Sized f
 unfolding fits
 read-then-written a s f bs e =

@@ -26,12 +26,12 @@ fitting a (SafeRead dest src cyc seq datl add) z e = let p = and-parts (is24 des
 fitting a (SafeWrite dest src cyc seq datl add) z e = let p = and-parts (is24 dest) (is24 src) e in omega (arith, ltb-true)
 fitting a (PlainRead src datl add) z e = omega arith
 fitting a (PlainWrite src datl add) z e = omega arith
-fitting a (SafeResponse dest src cyc seq cmd datl add stat) z e =
-    let p = and-parts (is24 dest && is24 src) (safeCom cmd datl) e in
+fitting a (SafeResponse dest src cyc seq «com» datl add stat) z e =
+    let p = and-parts (is24 dest && is24 src) (safeCom «com» datl) e in
     let q = and-parts (is24 dest) (is24 src) (p .0) in
     omega (arith, ltb-true)
 fitting a (PlainSyncResponse src datl add stat) z e = omega arith
-fitting a (PlainResponse src cmd datl add) z e = omega arith
+fitting a (PlainResponse src «com» datl add) z e = omega arith
 fitting a (TidAssignment src iid tid) z e = omega arith
 fitting a (SidAssignment src sec mac sid) z e = let p = and-parts (is24 src) (is24 sid) e in omega (arith, ltb-true)
 fitting a (SidAssignment4 src sec mac sid sid2 src2) z e =
@@ -48,9 +48,9 @@ sized (SafeRead dest src cyc seq datl add) h = omega arith
 sized (SafeWrite dest src cyc seq datl add) h = omega arith
 sized (PlainRead src datl add) h = omega arith
 sized (PlainWrite src datl add) h = omega arith
-sized (SafeResponse dest src cyc seq cmd datl add stat) h = omega arith
+sized (SafeResponse dest src cyc seq «com» datl add stat) h = omega arith
 sized (PlainSyncResponse src datl add stat) h = omega arith
-sized (PlainResponse src cmd datl add) h = omega arith
+sized (PlainResponse src «com» datl add) h = omega arith
 sized (TidAssignment src iid tid) h = omega arith
 sized (SidAssignment src sec mac sid) h = omega arith
 sized (SidAssignment4 src sec mac sid sid2 src2) h = omega arith

@@ -3,8 +3,8 @@ pub mod Parts
 pub mod Sealing
 pub mod Standing
 pub mod Answers
-pub mod StandsTaken
-pub mod TakenStands
+pub mod StandsValid
+pub mod ValidStands
 pub mod BothWays
 pub mod Sizes
 pub mod Sending

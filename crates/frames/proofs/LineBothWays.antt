@@ -23,7 +23,7 @@ use Rattle.frames.specs.Kinds.{dataLen, dataIn, appOf}
 use Rattle.frames.specs.Reading.{readApp, receivedBody, readFrame, readingAnswer, answerToFrame}
 use Rattle.frames.specs.Writing.{fieldsFit, fits, frameLine, writtenOf}
 use Rattle.frames.specs.Sized.{Sized}
-use Rattle.frames.specs.declared.reading.Read.the-variants.{Taken}
+use Rattle.frames.specs.declared.reading.Read.the-variants.{Valid}
 use Rattle.frames.specs.declared.reading.Reading.{Reading}
 use Rattle.frames.specs.declared.reading.Reading.the-variants as reading
 use Rattle.frames.specs.declared.reading.Received.{Received}
@@ -40,7 +40,7 @@ abbrev pub dataOf : Frame → Received → List ℕ
 dataOf f r = dataIn f (take (r .len) (r .bytes))
 
 -- ---- sent, then received
--- the application data of a frame that the writer takes have 4 to 269 bytes
+-- the application data of a frame that the writer accepts have 4 to 269 bytes
 pub app-range : (a : ℕ) (f : Frame) (xs : List ℕ) → Sized f → fits a f (length xs) ≡ true → (4 ≤ length (appOf f xs)) × (length (appOf f xs) ≤ 269)
 unfolding fits
 app-range a f xs z e =
@@ -49,8 +49,8 @@ app-range a f xs z e =
     let l = app-length f xs (eqb-true (length xs) (dataLen f) (w .1)) in
     (omega arith, omega arith)
 
-received : (a : ℕ) (ys : List ℕ) (f : Frame) → reservedAddr a ≡ false → 4 ≤ length ys → length ys ≤ 269 → readApp a ys ≡ Taken f
-    → (readFrame (bodyOf a ys) .reading ≡ reading.Taken a f) × (dataOf f (readFrame (bodyOf a ys)) ≡ dataIn f ys)
+received : (a : ℕ) (ys : List ℕ) (f : Frame) → reservedAddr a ≡ false → 4 ≤ length ys → length ys ≤ 269 → readApp a ys ≡ Valid f
+    → (readFrame (bodyOf a ys) .reading ≡ reading.Valid a f) × (dataOf f (readFrame (bodyOf a ys)) ≡ dataIn f ys)
 unfolding readFrame
 received a ys f free least most e =
     let h : ℕ = fcsOf a ys / 256 in
@@ -61,7 +61,7 @@ received a ys f free least most e =
 
 pub laid-frame-read : (n a m : ℕ) (f : Frame) (xs : List ℕ) → Sized f → writtenOf n a f xs ≡ Sent m
     → (length (frameLine a f xs) ≡ m)
-    × (readFrame (between (frameLine a f xs)) .reading ≡ reading.Taken a f)
+    × (readFrame (between (frameLine a f xs)) .reading ≡ reading.Valid a f)
     × (dataOf f (readFrame (between (frameLine a f xs))) ≡ xs)
 laid-frame-read n a m f xs z e =
     let w = sent-says n a f xs m e in
@@ -97,7 +97,7 @@ pub record Sendable (a : ℕ) (f : Frame) (d s : List ℕ) : Type 0 where
   pub sized : Sized f
   pub goes : (n : ℕ) → length (frameLine a f d) ≤ n → writtenOf n a f d ≡ Sent (length (frameLine a f d))
 
-pub read-frame-laid : (a : ℕ) (f : Frame) (s : List ℕ) → Bytes s → readFrame s .reading ≡ reading.Taken a f
+pub read-frame-laid : (a : ℕ) (f : Frame) (s : List ℕ) → Bytes s → readFrame s .reading ≡ reading.Valid a f
     → Sendable a f (dataOf f (readFrame s)) s
 unfolding readFrame
 read-frame-laid a f s bs e =

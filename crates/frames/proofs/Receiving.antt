@@ -1,4 +1,4 @@
--- What an answer of the reader says: a frame is taken where its body and its application data are. Assumes nothing.
+-- What an answer of the reader says: a frame is valid where its body and its application data are. Assumes nothing.
 use mathlib.Core.Path.{_≡_, refl, ap, _∙_, subst}
 use Prim.Native.Nat.{ℕ}
 use mathlib.Core.List.{List}
@@ -12,7 +12,7 @@ use Rattle.wire.specs.declared.body.Verdict.the-variants as verdict
 use Rattle.frames.specs.Kinds.{dataIn}
 use Rattle.frames.specs.Reading.{readApp, readAnswer, answerToApp, receivedApp, byVerdict, receivedBody, readFrame, receivedAnswer, answerToFrame}
 use Rattle.frames.specs.declared.reading.Read.{Read}
-use Rattle.frames.specs.declared.reading.Read.the-variants.{Taken, Kind, Form, Check}
+use Rattle.frames.specs.declared.reading.Read.the-variants.{Valid, Kind, Form, Check}
 use Rattle.frames.specs.declared.reading.Reading.the-variants as reading
 use Rattle.frames.specs.declared.kinds.Frame.{Frame}
 
@@ -21,32 +21,32 @@ abbrev pub appIn : Body → List ℕ
 appIn b = take (b .len) (b .bytes)
 
 module _ (a : ℕ) (f : Frame) where
-  by-verdict : (v : Verdict) (b : Body) → byVerdict v b .reading ≡ reading.Taken a f → v ≡ verdict.Taken
-  by-verdict verdict.Taken b e = refl
+  by-verdict : (v : Verdict) (b : Body) → byVerdict v b .reading ≡ reading.Valid a f → v ≡ verdict.Valid
+  by-verdict verdict.Valid b e = refl
   by-verdict verdict.Length b e = cc
   by-verdict verdict.Stuffing b e = cc
   by-verdict verdict.Size b e = cc
   by-verdict verdict.Check b e = cc
   by-verdict verdict.Reserved b e = cc
 
-  by-read : (r : Read) (b : Body) → receivedApp r b .reading ≡ reading.Taken a f → (b .addr ≡ a) × (r ≡ Taken f)
-  by-read (Taken g) b e = ((cc), (cc))
+  by-read : (r : Read) (b : Body) → receivedApp r b .reading ≡ reading.Valid a f → (b .addr ≡ a) × (r ≡ Valid f)
+  by-read (Valid g) b e = ((cc), (cc))
   by-read Kind b e = ((cc), (cc))
   by-read Form b e = ((cc), (cc))
   by-read Check b e = ((cc), (cc))
 
-  -- the frame is read from the application data of a body that was taken, for its address
-  pub read-says : (b : Body) → receivedBody b .reading ≡ reading.Taken a f
-      → (b .verdict ≡ verdict.Taken) × (b .addr ≡ a) × (readApp (b .addr) (appIn b) ≡ Taken f)
+  -- the frame is read from the application data of a valid body, for its address
+  pub read-says : (b : Body) → receivedBody b .reading ≡ reading.Valid a f
+      → (b .verdict ≡ verdict.Valid) × (b .addr ≡ a) × (readApp (b .addr) (appIn b) ≡ Valid f)
   unfolding receivedBody
   read-says b e =
-      let v : b .verdict ≡ verdict.Taken = by-verdict (b .verdict) b e in
-      let w = by-read (readApp (b .addr) (appIn b)) b (subst (λ (x : Verdict). byVerdict x b .reading ≡ reading.Taken a f) v e) in
+      let v : b .verdict ≡ verdict.Valid = by-verdict (b .verdict) b e in
+      let w = by-read (readApp (b .addr) (appIn b)) b (subst (λ (x : Verdict). byVerdict x b .reading ≡ reading.Valid a f) v e) in
       (v, w .0, w .1)
 
 -- and it comes with them
-pub read-holds : (b : Body) (f : Frame) → b .verdict ≡ verdict.Taken → readApp (b .addr) (appIn b) ≡ Taken f
-    → receivedBody b ≡ record { reading = reading.Taken (b .addr) f; bytes = b .bytes; len = b .len }
+pub read-holds : (b : Body) (f : Frame) → b .verdict ≡ verdict.Valid → readApp (b .addr) (appIn b) ≡ Valid f
+    → receivedBody b ≡ record { reading = reading.Valid (b .addr) f; bytes = b .bytes; len = b .len }
 unfolding receivedBody
 read-holds b f v r = ap (λ (x : Verdict). byVerdict x b) v ∙ ap (λ (x : Read). receivedApp x b) r
 
@@ -55,7 +55,7 @@ abbrev frameBeside : Body → Frame → Answer (ℕ × Frame × List ℕ)
 frameBeside b f = (0, some (b .addr, f, dataIn f (appIn b)))
 
 answer-by-read : (r : Read) (b : Body) → receivedAnswer (receivedApp r b) ≡ andThen (readAnswer r) (frameBeside b)
-answer-by-read (Taken f) b = refl
+answer-by-read (Valid f) b = refl
 answer-by-read Kind b = refl
 answer-by-read Form b = refl
 answer-by-read Check b = refl
@@ -63,7 +63,7 @@ answer-by-read Check b = refl
 answer-by-verdict : (v : Verdict) (b : Body)
     → receivedAnswer (byVerdict v b)
     ≡ andThen (verdictAnswer v (b .addr) (appIn b)) (λ x. andThen (answerToApp (x .0) (x .1)) (λ f. (0, some (x .0, f, dataIn f (x .1)))))
-answer-by-verdict verdict.Taken b = answer-by-read (readApp (b .addr) (appIn b)) b
+answer-by-verdict verdict.Valid b = answer-by-read (readApp (b .addr) (appIn b)) b
 answer-by-verdict verdict.Length b = refl
 answer-by-verdict verdict.Stuffing b = refl
 answer-by-verdict verdict.Size b = refl

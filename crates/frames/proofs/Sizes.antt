@@ -15,9 +15,9 @@ use Rattle.frames.specs.declared.kinds.Frame.the-variants.{Sync, SafeRea
 use Rattle.frames.proofs.Parts.{appLen}
 
 -- a safe response has at most 254 data bytes
-safe-datl : (cmd datl : ℕ) → safeCom cmd datl ≡ true → datl ≤ 254
+safe-datl : («com» datl : ℕ) → safeCom «com» datl ≡ true → datl ≤ 254
 unfolding safeCom
-safe-datl cmd datl e = by (eqb cmd 0x07 || eqb cmd 0x70) (eqb cmd 0xAA || eqb cmd 0x55) e
+safe-datl «com» datl e = by (eqb «com» 0x07 || eqb «com» 0x70) (eqb «com» 0xAA || eqb «com» 0x55) e
   where
     by : (t u : Bool) → choose t (ltb datl 255) (choose u (eqb datl 0) false) ≡ true → datl ≤ 254
     by true u e = omega (arith, ltb-true datl 255 e)
@@ -31,11 +31,11 @@ in-body a (SafeRead dest src cyc seq datl add) z e = omega arith
 in-body a (SafeWrite dest src cyc seq datl add) z e = omega arith
 in-body a (PlainRead src datl add) z e = omega arith
 in-body a (PlainWrite src datl add) z e = omega arith
-in-body a (SafeResponse dest src cyc seq cmd datl add stat) z e =
-    let p = and-parts (is24 dest && is24 src) (safeCom cmd datl) e in
-    omega (arith, safe-datl cmd datl (p .1))
+in-body a (SafeResponse dest src cyc seq «com» datl add stat) z e =
+    let p = and-parts (is24 dest && is24 src) (safeCom «com» datl) e in
+    omega (arith, safe-datl «com» datl (p .1))
 in-body a (PlainSyncResponse src datl add stat) z e = omega arith
-in-body a (PlainResponse src cmd datl add) z e = omega arith
+in-body a (PlainResponse src «com» datl add) z e = omega arith
 in-body a (TidAssignment src iid tid) z e = omega arith
 in-body a (SidAssignment src sec mac sid) z e = omega arith
 in-body a (SidAssignment4 src sec mac sid sid2 src2) z e = omega arith

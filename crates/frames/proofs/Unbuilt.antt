@@ -8,16 +8,16 @@ use lib.Dec.{T}
 use Rattle.base.proofs.Interval.{allFrom, at}
 use Rattle.frames.specs.Reading.{readTyp}
 use Rattle.frames.specs.declared.reading.Read.{Read}
-use Rattle.frames.specs.declared.reading.Read.the-variants.{Taken, Kind, Form, Check}
+use Rattle.frames.specs.declared.reading.Read.the-variants.{Valid, Kind, Form, Check}
 
 abbrev pub isKind : Read → Bool
-isKind (Taken f) = false
+isKind (Valid f) = false
 isKind Kind = true
 isKind Form = false
 isKind Check = false
 
 is-kind : (r : Read) → T (isKind r) → Kind ≡ r
-is-kind (Taken f) t = absurd t
+is-kind (Valid f) t = absurd t
 is-kind Kind t = refl
 is-kind Form t = absurd t
 is-kind Check t = absurd t

@@ -25,11 +25,11 @@ headOf (SafeWrite dest src cyc seq datl add) =
 headOf (PlainRead src datl add) = (1, 0x08) ∷ (1, src) ∷ (1, 0x02) ∷ (1, datl) ∷ (1, add) ∷ []
 headOf (PlainWrite src datl add) = (1, 0x08) ∷ (1, src) ∷ (1, 0x01) ∷ (1, datl) ∷ (1, add) ∷ []
 -- table 7: TYP, DEST, SRC, CYC, SEQ, COM, DATL, ADD
-headOf (SafeResponse dest src cyc seq cmd datl add stat) =
-    (1, 0x70) ∷ (3, dest) ∷ (3, src) ∷ (1, cyc) ∷ (1, seq) ∷ (1, cmd) ∷ (1, datl) ∷ (1, add) ∷ []
+headOf (SafeResponse dest src cyc seq «com» datl add stat) =
+    (1, 0x70) ∷ (3, dest) ∷ (3, src) ∷ (1, cyc) ∷ (1, seq) ∷ (1, «com») ∷ (1, datl) ∷ (1, add) ∷ []
 -- table 8: TYP, SRC, COM, DATL, ADD
 headOf (PlainSyncResponse src datl add stat) = (1, 0x80) ∷ (1, src) ∷ (1, 0x01) ∷ (1, datl) ∷ (1, add) ∷ []
-headOf (PlainResponse src cmd datl add) = (1, 0x80) ∷ (1, src) ∷ (1, cmd) ∷ (1, datl) ∷ (1, add) ∷ []
+headOf (PlainResponse src «com» datl add) = (1, 0x80) ∷ (1, src) ∷ (1, «com») ∷ (1, datl) ∷ (1, add) ∷ []
 -- table 9: TYP, SRC, IID, TID
 headOf (TidAssignment src iid tid) = (1, 0x3C) ∷ (1, src) ∷ (8, iid) ∷ (1, tid) ∷ []
 -- table 10: TYP, SRC, SEC, MAC, SID
@@ -50,9 +50,9 @@ tailOf (SafeRead dest src cyc seq datl add) = []
 tailOf (SafeWrite dest src cyc seq datl add) = []
 tailOf (PlainRead src datl add) = []
 tailOf (PlainWrite src datl add) = []
-tailOf (SafeResponse dest src cyc seq cmd datl add stat) = (1, stat) ∷ []
+tailOf (SafeResponse dest src cyc seq «com» datl add stat) = (1, stat) ∷ []
 tailOf (PlainSyncResponse src datl add stat) = (1, stat) ∷ []
-tailOf (PlainResponse src cmd datl add) = []
+tailOf (PlainResponse src «com» datl add) = []
 tailOf (TidAssignment src iid tid) = []
 tailOf (SidAssignment src sec mac sid) = []
 tailOf (SidAssignment4 src sec mac sid sid2 src2) = []
@@ -66,9 +66,9 @@ isSafe (SafeRead dest src cyc seq datl add) = true
 isSafe (SafeWrite dest src cyc seq datl add) = true
 isSafe (PlainRead src datl add) = false
 isSafe (PlainWrite src datl add) = false
-isSafe (SafeResponse dest src cyc seq cmd datl add stat) = true
+isSafe (SafeResponse dest src cyc seq «com» datl add stat) = true
 isSafe (PlainSyncResponse src datl add stat) = false
-isSafe (PlainResponse src cmd datl add) = false
+isSafe (PlainResponse src «com» datl add) = false
 isSafe (TidAssignment src iid tid) = false
 isSafe (SidAssignment src sec mac sid) = true
 isSafe (SidAssignment4 src sec mac sid sid2 src2) = true
@@ -82,9 +82,9 @@ dataLen (SafeRead dest src cyc seq datl add) = 0
 dataLen (SafeWrite dest src cyc seq datl add) = datl
 dataLen (PlainRead src datl add) = 0
 dataLen (PlainWrite src datl add) = datl
-dataLen (SafeResponse dest src cyc seq cmd datl add stat) = datl
+dataLen (SafeResponse dest src cyc seq «com» datl add stat) = datl
 dataLen (PlainSyncResponse src datl add stat) = datl
-dataLen (PlainResponse src cmd datl add) = datl
+dataLen (PlainResponse src «com» datl add) = datl
 dataLen (TidAssignment src iid tid) = 0
 dataLen (SidAssignment src sec mac sid) = 0
 dataLen (SidAssignment4 src sec mac sid sid2 src2) = 0

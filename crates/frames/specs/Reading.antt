@@ -19,7 +19,7 @@ use Rattle.frames.specs.Kinds.{dataIn}
 use Rattle.frames.specs.declared.kinds.Frame.{Frame}
 use Rattle.frames.specs.declared.kinds.Frame.the-variants.{Sync, SafeRead, SafeWrite, PlainRead, PlainWrite, SafeResponse, PlainSyncResponse, PlainResponse, TidAssignment, SidAssignment, SidAssignment4, Acknowledgement, Invariants}
 use Rattle.frames.specs.declared.reading.Read.{Read}
-use Rattle.frames.specs.declared.reading.Read.the-variants.{Taken, Kind, Form, Check}
+use Rattle.frames.specs.declared.reading.Read.the-variants.{Valid, Kind, Form, Check}
 use Rattle.frames.specs.declared.reading.Reading.{Reading}
 use Rattle.frames.specs.declared.reading.Reading.the-variants as reading
 use Rattle.frames.specs.declared.reading.Received.{Received}
@@ -30,11 +30,11 @@ safeOk s = eqb (crcOf Safety (take (length s - 2) s)) (numberAt s (length s - 2)
 
 -- a safe frame: its form (8), then its CRC (9)
 unfoldable pub safeRead : Bool → List ℕ → Frame → Read
-safeRead form s f = choose form (choose (safeOk s) (Taken f) Check) Form
+safeRead form s f = choose form (choose (safeOk s) (Valid f) Check) Form
 
 -- another one: its form alone
 unfoldable pub plainRead : Bool → Frame → Read
-plainRead form f = choose form (Taken f) Form
+plainRead form f = choose form (Valid f) Form
 
 -- table 4; a sync has address FFh
 unfoldable pub readSync : ℕ → List ℕ → Read
@@ -65,7 +65,7 @@ readPlainRequest s =
 
 -- table 7: COM 07h and 70h with at most 254 data bytes, AAh and 55h (errors) with none
 unfoldable pub safeCom : ℕ → ℕ → Bool
-safeCom cmd datl = choose (eqb cmd 0x07 || eqb cmd 0x70) (ltb datl 255) (choose (eqb cmd 0xAA || eqb cmd 0x55) (eqb datl 0) false)
+safeCom «com» datl = choose (eqb «com» 0x07 || eqb «com» 0x70) (ltb datl 255) (choose (eqb «com» 0xAA || eqb «com» 0x55) (eqb datl 0) false)
 
 unfoldable pub readSafeResponse : List ℕ → Read
 readSafeResponse s =
@@ -74,7 +74,7 @@ readSafeResponse s =
 
 -- table 8: COM 01h has a status byte at 5 + DATL; 02h has none; AAh and 55h (errors) have no data
 unfoldable pub plainCom : ℕ → ℕ → Bool
-plainCom cmd datl = choose (eqb cmd 0x02) true (choose (eqb cmd 0xAA || eqb cmd 0x55) (eqb datl 0) false)
+plainCom «com» datl = choose (eqb «com» 0x02) true (choose (eqb «com» 0xAA || eqb «com» 0x55) (eqb datl 0) false)
 
 unfoldable pub readPlainResponse : List ℕ → Read
 readPlainResponse s =
@@ -127,7 +127,7 @@ readApp a s = readTyp (numberAt s 0 1) a s
 
 -- document 01's number of each answer to application data and, beside 0, the frame
 abbrev pub readAnswer : Read → Answer Frame
-readAnswer (Taken f) = (0, some f)
+readAnswer (Valid f) = (0, some f)
 readAnswer Kind = (7, none)
 readAnswer Form = (8, none)
 readAnswer Check = (9, none)
@@ -142,7 +142,7 @@ answerToApp a s = readAnswer (readApp a s)
 
 -- document 01's number of each answer to a body and, beside 0, the address, the frame and its data bytes, of application data s
 abbrev pub readingAnswer : Reading → List ℕ → Answer (ℕ × Frame × List ℕ)
-readingAnswer (reading.Taken a f) s = (0, some (a, f, dataIn f s))
+readingAnswer (reading.Valid a f) s = (0, some (a, f, dataIn f s))
 readingAnswer reading.Length s = (1, none)
 readingAnswer reading.Stuffing s = (2, none)
 readingAnswer reading.Size s = (3, none)
@@ -160,18 +160,18 @@ readingNumber r = readingAnswer r [] .0
 abbrev pub receivedAnswer : Received → Answer (ℕ × Frame × List ℕ)
 receivedAnswer r = readingAnswer (r .reading) (take (r .len) (r .bytes))
 
--- what a body is answered: a frame is taken with its application data, a refusal holds nothing
+-- what a body is answered: a frame is read with its application data, a refusal holds nothing
 abbrev pub refusedFrame : Reading → Received
 refusedFrame r = record { reading = r; bytes = replicate 272 0; len = 0 }
 
 abbrev pub receivedApp : Read → Body → Received
-receivedApp (Taken f) b = record { reading = reading.Taken (b .addr) f; bytes = b .bytes; len = b .len }
+receivedApp (Valid f) b = record { reading = reading.Valid (b .addr) f; bytes = b .bytes; len = b .len }
 receivedApp Kind b = refusedFrame reading.Kind
 receivedApp Form b = refusedFrame reading.Form
 receivedApp Check b = refusedFrame reading.Check
 
 abbrev pub byVerdict : Verdict → Body → Received
-byVerdict verdict.Taken b = receivedApp (readApp (b .addr) (take (b .len) (b .bytes))) b
+byVerdict verdict.Valid b = receivedApp (readApp (b .addr) (take (b .len) (b .bytes))) b
 byVerdict verdict.Length b = refusedFrame reading.Length
 byVerdict verdict.Stuffing b = refusedFrame reading.Stuffing
 byVerdict verdict.Size b = refusedFrame reading.Size

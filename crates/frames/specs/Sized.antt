@@ -21,10 +21,10 @@ Sized (SafeRead dest src cyc seq datl add) = U32 dest × U32 src × U8 cyc × U8
 Sized (SafeWrite dest src cyc seq datl add) = U32 dest × U32 src × U8 cyc × U8 seq × U8 datl × U8 add
 Sized (PlainRead src datl add) = U8 src × U8 datl × U8 add
 Sized (PlainWrite src datl add) = U8 src × U8 datl × U8 add
-Sized (SafeResponse dest src cyc seq cmd datl add stat) =
-    U32 dest × U32 src × U8 cyc × U8 seq × U8 cmd × U8 datl × U8 add × U8 stat
+Sized (SafeResponse dest src cyc seq «com» datl add stat) =
+    U32 dest × U32 src × U8 cyc × U8 seq × U8 «com» × U8 datl × U8 add × U8 stat
 Sized (PlainSyncResponse src datl add stat) = U8 src × U8 datl × U8 add × U8 stat
-Sized (PlainResponse src cmd datl add) = U8 src × U8 cmd × U8 datl × U8 add
+Sized (PlainResponse src «com» datl add) = U8 src × U8 «com» × U8 datl × U8 add
 Sized (TidAssignment src iid tid) = U8 src × U64 iid × U8 tid
 Sized (SidAssignment src sec mac sid) = U32 src × U32 sec × U64 mac × U32 sid
 Sized (SidAssignment4 src sec mac sid sid2 src2) = U32 src × U32 sec × U64 mac × U32 sid × U32 sid2 × U32 src2

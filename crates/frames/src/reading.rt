@@ -15,7 +15,7 @@ use wire::body::Verdict;
 
 // What application data are answered: a frame, or numbers 7 to 9.
 pub enum Read {
-    Taken(Frame),
+    Valid(Frame),
     Kind,
     Form,
     Check,
@@ -26,7 +26,7 @@ pub fn read_number(read: Read) -> u8
     ensures { λ r. ⌜ r ≡ readNumber read ⌝ }
 {
     match read {
-        Read::Taken(_) => 0,
+        Read::Valid(_) => 0,
         Read::Kind => 7,
         Read::Form => 8,
         Read::Check => 9,
@@ -35,7 +35,7 @@ pub fn read_number(read: Read) -> u8
 
 // What a body is answered: an address and a frame, or numbers 1 to 5 and 7 to 9.
 pub enum Reading {
-    Taken(u8, Frame),
+    Valid(u8, Frame),
     Length,
     Stuffing,
     Size,
@@ -50,7 +50,7 @@ pub fn reading_number(reading: Reading) -> u8
     ensures { λ r. ⌜ r ≡ readingNumber reading ⌝ }
 {
     match reading {
-        Reading::Taken(_, _) => 0,
+        Reading::Valid(_, _) => 0,
         Reading::Length => 1,
         Reading::Stuffing => 2,
         Reading::Size => 3,
@@ -88,7 +88,7 @@ fn safe_read(form: bool, s: &[u8], f: Frame) -> Read
         return Read::Form;
     }
     if safe_ok(s) {
-        return Read::Taken(f);
+        return Read::Valid(f);
     }
     Read::Check
 }
@@ -98,7 +98,7 @@ fn plain_read(form: bool, f: Frame) -> Read
     ensures { λ r. ⌜ r ≡ plainRead form f ⌝ }
 {
     if form {
-        return Read::Taken(f);
+        return Read::Valid(f);
     }
     Read::Form
 }
@@ -388,7 +388,7 @@ fn refused(reading: Reading) -> Received
     }
 }
 
-// A body that was taken, by its application data.
+// A valid body, by its application data.
 fn received_app(b: Body) -> Received
     requires { ⌜ b .len ≤ 272 ⌝ }
     ensures { λ r. ⌜ r ≡ receivedApp (readApp (b .addr) (take (b .len) (b .bytes))) b ⌝ }
@@ -397,8 +397,8 @@ fn received_app(b: Body) -> Received
     let bytes = b.bytes;
     let len = b.len;
     match read_app(addr, &bytes[..len]) {
-        Read::Taken(f) => Received {
-            reading: Reading::Taken(addr, f),
+        Read::Valid(f) => Received {
+            reading: Reading::Valid(addr, f),
             bytes,
             len,
         },
@@ -415,7 +415,7 @@ fn received_body(b: Body) -> Received
 {
     let verdict = b.verdict;
     match verdict {
-        Verdict::Taken => received_app(b),
+        Verdict::Valid => received_app(b),
         Verdict::Length => refused(Reading::Length),
         Verdict::Stuffing => refused(Reading::Stuffing),
         Verdict::Size => refused(Reading::Size),

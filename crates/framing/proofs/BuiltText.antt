@@ -1,4 +1,4 @@
--- A frame that the writer takes is printed whole: its body in hex digits. Assumes nothing.
+-- A frame that the writer accepts is printed whole: its body in hex digits. Assumes nothing.
 use mathlib.Core.Path.{_≡_, refl, sym, ap, _∙_}
 use mathlib.Core.Bool.{true, false}
 use mathlib.Core.List.{List}

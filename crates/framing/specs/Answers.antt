@@ -14,7 +14,7 @@ use Rattle.frames.specs.Reading.{readFrame}
 use Rattle.frames.specs.Writing.{writtenOf}
 use Rattle.frames.specs.declared.kinds.Frame.{Frame}
 use Rattle.frames.specs.declared.reading.Reading.{Reading}
-use Rattle.frames.specs.declared.reading.Reading.the-variants.{Taken, Length, Stuffing, Size, Fcs, Reserved, Kind, Form, Check}
+use Rattle.frames.specs.declared.reading.Reading.the-variants.{Valid, Length, Stuffing, Size, Fcs, Reserved, Kind, Form, Check}
 use Rattle.frame_words.specs.Chars.{chars}
 use Rattle.frame_words.specs.Table.{Field, kindWord, fieldsOf, hasData}
 use Rattle.frame_fields.specs.Numbers.{kindOf, numbersOf, frameOf, addressOf, datlOf}
@@ -59,7 +59,7 @@ frameText a f bytes =
 
 -- or the reader's refusal
 abbrev pub byReading : Reading → List ℕ → Text
-byReading (Taken a f) bytes = frameText a f bytes
+byReading (Valid a f) bytes = frameText a f bytes
 byReading Length bytes = refusedReading Length
 byReading Stuffing bytes = refusedReading Stuffing
 byReading Size bytes = refusedReading Size

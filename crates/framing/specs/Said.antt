@@ -4,7 +4,7 @@ use Prim.Native.Nat.{ℕ}
 use Rattle.text.specs.Decimal.{decimalText}
 use Rattle.frames.specs.Reading.{readingNumber}
 use Rattle.frames.specs.declared.reading.Reading.{Reading}
-use Rattle.frames.specs.declared.reading.Reading.the-variants.{Taken, Length, Stuffing, Size, Fcs, Reserved, Kind, Form, Check}
+use Rattle.frames.specs.declared.reading.Reading.the-variants.{Valid, Length, Stuffing, Size, Fcs, Reserved, Kind, Form, Check}
 use Rattle.frame_words.specs.Chars.{chars}
 use Rattle.frame_words.specs.Texts.{noText, puts}
 use Rattle.frame_words.specs.declared.texts.Text.{Text}
@@ -22,7 +22,7 @@ wants name digits = name ∷ chars " wants " ∷ decimalText digits ∷ chars " 
 
 -- the table of words
 abbrev pub refusal : Reading → List ℕ
-refusal (Taken a f) = []
+refusal (Valid a f) = []
 refusal Length = chars "body not 7 to 543 bytes"
 refusal Stuffing = chars "stuffing"
 refusal Size = chars "unstuffed length not 7 to 272"

@@ -110,7 +110,7 @@ pub fn explained(body: &[u8]) -> Text
     let reading = r.reading;
     let bytes = r.bytes;
     match reading {
-        Reading::Taken(addr, f) => frame_text(addr, f, &bytes),
+        Reading::Valid(addr, f) => frame_text(addr, f, &bytes),
         Reading::Length => said::refused(Reading::Length),
         Reading::Stuffing => said::refused(Reading::Stuffing),
         Reading::Size => said::refused(Reading::Size),

@@ -54,7 +54,7 @@ pub fn refused(reading: Reading) -> Text
 {
     let t = refused_start(reading);
     match reading {
-        Reading::Taken(_, _) => texts::add(t, b""),
+        Reading::Valid(_, _) => texts::add(t, b""),
         Reading::Length => texts::add(t, b"body not 7 to 543 bytes"),
         Reading::Stuffing => texts::add(t, b"stuffing"),
         Reading::Size => texts::add(t, b"unstuffed length not 7 to 272"),

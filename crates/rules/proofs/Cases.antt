@@ -18,7 +18,7 @@ use Rattle.frames.specs.Kinds.{dataIn}
 use Rattle.frames.specs.declared.kinds.Frame.{Frame}
 use Rattle.frames.specs.declared.kinds.Frame.the-variants.{Sync, SafeRead, SafeWrite, PlainRead, PlainWrite, SafeResponse, PlainSyncResponse, PlainResponse, TidAssignment, SidAssignment, SidAssignment4, Acknowledgement, Invariants}
 use Rattle.frames.specs.declared.reading.Read.{Read}
-use Rattle.frames.specs.declared.reading.Read.the-variants.{Taken, Kind, Form, Check}
+use Rattle.frames.specs.declared.reading.Read.the-variants.{Valid, Kind, Form, Check}
 use Rattle.frames.specs.Writing.{frameLine}
 use Rattle.frames.proofs.Receiving.{appIn}
 use Rattle.rules.specs.Answers.{accepted, bodyLength, stuffing, unstuffedLength, fcs, reserved, elsewhere, typ, form, crc, source, addressee, cycle, repeat, outOfOrder, tooMany, outsideRules, notAllowed, eightOthers, unsound, replyRoom, hostInput}
@@ -96,7 +96,7 @@ pub data KindCase (a : Agent) : Frame → List ℕ → Deed → Type 0 where
 pub data FrameCase (a : Agent) (body : List ℕ) : Deed → Type 0 where
   unread : (n : ℕ) → isMarking (readsSync (readOf body) && running a) n ≡ true
       → FrameCase a body (does n (changed (rowOf (readsSync (readOf body) && running a) n) a))
-  readAs : {d : Deed} (f : Frame) → readBody body .verdict ≡ verdict.Taken → readOf body ≡ Taken f
+  readAs : {d : Deed} (f : Frame) → readBody body .verdict ≡ verdict.Valid → readOf body ≡ Valid f
       → KindCase a f (dataIn f (appIn (readBody body))) d → FrameCase a body d
 
 -- what a call does
@@ -205,15 +205,15 @@ module _ (port : ℕ) (a : Agent) where
   kind-case (Invariants dest src cyc seq config logic) xs = refuses typ refl
 
   module _ (body : List ℕ) where
-    read-as : readBody body .verdict ≡ verdict.Taken → (r : Read) → readOf body ≡ r → FrameCase a body (onRead port a r (appIn (readBody body)))
-    read-as v (Taken f) e = readAs f v e (kind-case f (dataIn f (appIn (readBody body))))
+    read-as : readBody body .verdict ≡ verdict.Valid → (r : Read) → readOf body ≡ r → FrameCase a body (onRead port a r (appIn (readBody body)))
+    read-as v (Valid f) e = readAs f v e (kind-case f (dataIn f (appIn (readBody body))))
     read-as v Kind e = unread typ refl
     read-as v Form e = unread form refl
     read-as v Check e = unread crc refl
 
     verdict-case : (v : Verdict) → readBody body .verdict ≡ v → FrameCase a body (onVerdict port a v (readBody body))
     unfolding onApp
-    verdict-case verdict.Taken e =
+    verdict-case verdict.Valid e =
         by-test (FrameCase a body) (isOwn a (readBody body .addr)) (λ own. read-as e (readOf body) refl) (λ other. unread elsewhere refl)
     verdict-case verdict.Length e = unread bodyLength refl
     verdict-case verdict.Stuffing e = unread stuffing refl

@@ -19,7 +19,7 @@ use Rattle.frames.specs.Writing.{fieldsFit, fits}
 use Rattle.frames.specs.declared.kinds.Frame.{Frame}
 use Rattle.frames.specs.declared.kinds.Frame.the-variants.{Sync, SafeRead, SafeWrite, PlainRead, PlainWrite, SafeResponse, PlainSyncResponse, PlainResponse, TidAssignment, SidAssignment, SidAssignment4, Acknowledgement, Invariants}
 use Rattle.frames.specs.declared.reading.Read.{Read}
-use Rattle.frames.specs.declared.reading.Read.the-variants.{Taken}
+use Rattle.frames.specs.declared.reading.Read.the-variants.{Valid}
 use Rattle.frames.proofs.BothWays.{written-then-read}
 use Rattle.frames.proofs.Fits.{fitting}
 use Rattle.frames.proofs.LineBothWays.{app-range}
@@ -84,7 +84,7 @@ module _ (addr : ℕ) (f : Frame) (xs : List ℕ) (l : Layable addr f xs) where
   stands : Stands addr (appOf f xs) f
   stands = written-stands addr f xs (fitting addr f (l .sized) field-fit) field-fit data-fit
 
-  read-back : agentRead addr (appOf f xs) ≡ Taken f
+  read-back : agentRead addr (appOf f xs) ≡ Valid f
   unfolding agentRead
   read-back =
       rw (typ-served (appOf f xs) f stands (l .is-served), not-sil4 (appOf f xs) f stands (l .is-served)) (written-then-read addr f xs (l .sized) (l .fit) .0)

@@ -5,10 +5,10 @@ use Prim.Native.Nat.{ℕ}
 use Rattle.base.specs.Bytes.{Bytes}
 use Rattle.frames.specs.Reading.{readApp}
 use Rattle.frames.specs.declared.kinds.Frame.{Frame}
-use Rattle.frames.specs.declared.reading.Read.the-variants.{Taken}
+use Rattle.frames.specs.declared.reading.Read.the-variants.{Valid}
 use Rattle.frames.proofs.Fits.{FittingFrame}
 use Rattle.frames.proofs.Standing.{stands-fitting}
-use Rattle.frames.proofs.TakenStands.{stands}
+use Rattle.frames.proofs.ValidStands.{stands}
 
-pub read-fitting : (a : ℕ) (s : List ℕ) (f : Frame) → Bytes s → readApp a s ≡ Taken f → FittingFrame f
+pub read-fitting : (a : ℕ) (s : List ℕ) (f : Frame) → Bytes s → readApp a s ≡ Valid f → FittingFrame f
 read-fitting a s f bs e = stands-fitting a s f bs (stands a s bs f e)

@@ -14,18 +14,18 @@ use Rattle.frames.specs.Reading.{readApp}
 use Rattle.frames.specs.declared.kinds.Frame.{Frame}
 use Rattle.frames.specs.declared.kinds.Frame.the-variants.{Sync, SafeRead, SafeWrite, PlainRead, PlainWrite, SafeResponse, PlainSyncResponse, PlainResponse, TidAssignment, SidAssignment, SidAssignment4, Acknowledgement, Invariants}
 use Rattle.frames.specs.declared.reading.Read.{Read}
-use Rattle.frames.specs.declared.reading.Read.the-variants.{Taken, Kind, Form}
+use Rattle.frames.specs.declared.reading.Read.the-variants.{Valid, Kind, Form}
 use Rattle.frames.proofs.Standing.{Stands}
-use Rattle.frames.proofs.TakenStands.{stands}
+use Rattle.frames.proofs.ValidStands.{stands}
 use Rattle.rules.specs.FrameCall.{serves, served, isSil4, agentRead}
 
 -- which arms of the choice a frame can have come through
 record Through (b c : Bool) (r : Read) (f : Frame) : Type 0 where
   typ-served : b ≡ true
   not-sil4 : c ≡ false
-  read : r ≡ Taken f
+  read : r ≡ Valid f
 
-through : (b c : Bool) (r : Read) (f : Frame) → choose b (choose c Form r) Kind ≡ Taken f → Through b c r f
+through : (b c : Bool) (r : Read) (f : Frame) → choose b (choose c Form r) Kind ≡ Valid f → Through b c r f
 through true false r f e = record { typ-served = refl; not-sil4 = refl; read = e }
 through true true r f e = absurd (let z : _≡_ {A = ℕ} 0 1 = cc in omega arith)
 through false c r f e = absurd (let z : _≡_ {A = ℕ} 0 1 = cc in omega arith)
@@ -57,11 +57,11 @@ module _ (a : ℕ) (s : List ℕ) (p : served (numberAt s 0 1) ≡ true) (q : is
   standing-served (Invariants dest src cyc seq config logic) st = unserved _ _ _ (st .head) refl
 
 -- a frame that the module reads is the one that the reader of frames reads
-pub reads-frame : (addr : ℕ) (s : List ℕ) (f : Frame) → agentRead addr s ≡ Taken f → readApp addr s ≡ Taken f
+pub reads-frame : (addr : ℕ) (s : List ℕ) (f : Frame) → agentRead addr s ≡ Valid f → readApp addr s ≡ Valid f
 unfolding agentRead
 reads-frame addr s f e = through (served (numberAt s 0 1)) (isSil4 s) (readApp addr s) f e .read
 
-pub reads-served : (addr : ℕ) (s : List ℕ) (f : Frame) → Bytes s → agentRead addr s ≡ Taken f → serves f ≡ true
+pub reads-served : (addr : ℕ) (s : List ℕ) (f : Frame) → Bytes s → agentRead addr s ≡ Valid f → serves f ≡ true
 unfolding agentRead
 reads-served addr s f bs e =
     let t = through (served (numberAt s 0 1)) (isSil4 s) (readApp addr s) f e in

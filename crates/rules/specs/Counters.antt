@@ -12,7 +12,7 @@ use Rattle.wire.specs.Body.{readBody}
 use Rattle.frames.specs.Kinds.{dataIn}
 use Rattle.frames.specs.declared.kinds.Frame.{Frame}
 use Rattle.frames.specs.declared.kinds.Frame.the-variants.{SafeWrite}
-use Rattle.frames.specs.declared.reading.Read.the-variants.{Taken}
+use Rattle.frames.specs.declared.reading.Read.the-variants.{Valid}
 use Rattle.rules.specs.Answers.{accepted, typ, cycle, outOfOrder}
 use Rattle.rules.specs.Calls.{Call, frame}
 use Rattle.rules.specs.Marks.{counter}
@@ -28,7 +28,7 @@ isCounter i = within 0x1E 0x24 i
 
 -- a call brings a frame with its data
 pub data Brings : Call → Frame → List ℕ → Type 0 where
-  brings : {port room : ℕ} {body : List ℕ} {f : Frame} → readOf body ≡ Taken f
+  brings : {port room : ℕ} {body : List ℕ} {f : Frame} → readOf body ≡ Valid f
       → Brings (frame port body room) f (dataIn f (take (readBody body .len) (readBody body .bytes)))
 
 -- what register i, a counter, is after a call with its answer n

@@ -15,7 +15,7 @@ use Rattle.frames.specs.Reading.{readApp, readNumber}
 use Rattle.frames.specs.declared.kinds.Frame.{Frame}
 use Rattle.frames.specs.declared.kinds.Frame.the-variants.{Sync, SafeRead, SafeWrite, PlainRead, PlainWrite, SafeResponse, PlainSyncResponse, PlainResponse, TidAssignment, SidAssignment, SidAssignment4, Acknowledgement, Invariants}
 use Rattle.frames.specs.declared.reading.Read.{Read}
-use Rattle.frames.specs.declared.reading.Read.the-variants.{Taken, Kind, Form, Check}
+use Rattle.frames.specs.declared.reading.Read.the-variants.{Valid, Kind, Form, Check}
 use Rattle.rules.specs.Answers.{elsewhere, typ, form}
 use Rattle.rules.specs.Assignments.{onTid, onSid}
 use Rattle.rules.specs.Marks.{lineMarked, formatMarked}
@@ -74,7 +74,7 @@ agentRead addr s = choose (served (numberAt s 0 1)) (choose (isSil4 s) Form (rea
 
 -- 7, 8, 9, then the kind
 abbrev pub onRead : ℕ → Agent → Read → List ℕ → Deed
-onRead port a (Taken f) s = onKind port a f (dataIn f s)
+onRead port a (Valid f) s = onKind port a f (dataIn f s)
 onRead port a Kind s = does (readNumber Kind) (formatMarked a)
 onRead port a Form s = does (readNumber Form) a
 onRead port a Check s = does (readNumber Check) a
@@ -88,7 +88,7 @@ onApp port a addr s = choose (isOwn a addr) (onRead port a (agentRead addr s) s)
 
 -- 1 to 4 are the line's, 5 another station's
 abbrev pub onVerdict : ℕ → Agent → Verdict → Body → Deed
-onVerdict port a verdict.Taken b = onApp port a (b .addr) (take (b .len) (b .bytes))
+onVerdict port a verdict.Valid b = onApp port a (b .addr) (take (b .len) (b .bytes))
 onVerdict port a verdict.Length b = does (verdictNumber verdict.Length) (lineMarked a)
 onVerdict port a verdict.Stuffing b = does (verdictNumber verdict.Stuffing) (lineMarked a)
 onVerdict port a verdict.Size b = does (verdictNumber verdict.Size) (lineMarked a)

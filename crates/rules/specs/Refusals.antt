@@ -13,7 +13,7 @@ use Rattle.wire.specs.Body.{readBody}
 use Rattle.frames.specs.Kinds.{headOf}
 use Rattle.frames.specs.declared.kinds.Frame.{Frame}
 use Rattle.frames.specs.declared.reading.Read.{Read}
-use Rattle.frames.specs.declared.reading.Read.the-variants.{Taken, Kind, Form, Check}
+use Rattle.frames.specs.declared.reading.Read.the-variants.{Valid, Kind, Form, Check}
 use Rattle.rules.specs.Answers.{bodyLength, fcs, reserved, elsewhere, typ, form, crc, source, addressee, cycle, repeat, outOfOrder, tooMany, outsideRules, hostInput}
 use Rattle.rules.specs.Calls.{Call, tick, input, frame, leftIn}
 use Rattle.rules.specs.Fallback.{withheld, enterFallback}
@@ -157,7 +157,7 @@ abbrev pub isSync : Frame → Bool
 isSync f = eqb (getD (numbers (headOf f)) 0 0) 0x00
 
 abbrev pub readsSync : Read → Bool
-readsSync (Taken f) = isSync f
+readsSync (Valid f) = isSync f
 readsSync Kind = false
 readsSync Form = false
 readsSync Check = false

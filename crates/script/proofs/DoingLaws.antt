@@ -10,16 +10,16 @@ use Rattle.rules.specs.Calls.{tickCall, leftIn}
 use Rattle.rules.specs.Replies.{Outcome, outcome}
 use Rattle.rules.specs.declared.Agent.{Agent}
 use Rattle.agent_replies.specs.declared.sending.Handled.{Handled}
-use Rattle.script.specs.Doing.{ticked, told}
+use Rattle.script.specs.Doing.{afterTicks, told}
 
 -- ---- ticks
-pub ticked-turn : (n i : ℕ) (a b z : Agent) → i < n → b ≡ tickCall a .agent → ticked (n - i) a ≡ z → ticked (n - (i + 1)) b ≡ z
-unfolding ticked
-ticked-turn n i a b z h q e = ap (ticked (n - (i + 1))) q ∙ ap (λ (m : ℕ). ticked m a) (sym (left-turn n i h)) ∙ e
+pub ticks-turn : (n i : ℕ) (a b z : Agent) → i < n → b ≡ tickCall a .agent → afterTicks (n - i) a ≡ z → afterTicks (n - (i + 1)) b ≡ z
+unfolding afterTicks
+ticks-turn n i a b z h q e = ap (afterTicks (n - (i + 1))) q ∙ ap (λ (m : ℕ). afterTicks m a) (sym (left-turn n i h)) ∙ e
 
-pub ticked-end : (n i : ℕ) (a z : Agent) → n ≤ i → ticked (n - i) a ≡ z → a ≡ z
-unfolding ticked
-ticked-end n i a z h e = ap (λ (m : ℕ). ticked m a) (sym (left-end n i h)) ∙ e
+pub ticks-end : (n i : ℕ) (a z : Agent) → n ≤ i → afterTicks (n - i) a ≡ z → a ≡ z
+unfolding afterTicks
+ticks-end n i a z h e = ap (λ (m : ℕ). afterTicks m a) (sym (left-end n i h)) ∙ e
 
 -- ---- what is handed back
 module _ (h : Handled) (o : Outcome) (out : List ℕ) (p : h .answer ≡ o .answer) (q : h .agent ≡ o .agent) (r : h .sent ≡ length (o .line)) where

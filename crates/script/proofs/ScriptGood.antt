@@ -27,7 +27,7 @@ use Rattle.rules.proofs.GoodStart.{good-start}
 use Rattle.rules.proofs.NeverUnsound.{never-unsound}
 use Rattle.console.specs.Programs.{nextAll}
 use Rattle.script.specs.Forms.{Step, ticks, frame, inputs, bad, longest, mostTicks, ticksOf, frameOf, inputsOf, formOf, lineOf}
-use Rattle.script.specs.Doing.{ticked, done}
+use Rattle.script.specs.Doing.{afterTicks, done}
 use Rattle.script.specs.Playing.{start, after, scripted}
 use Rattle.script.specs.declared.playing.Player.{Player}
 use Rattle.script.specs.declared.printing.View.{View}
@@ -101,14 +101,14 @@ line-sized s =
     (λ f. bad-sized))
 
 -- ---- every line leaves a good agent
-ticked-good : (n : ℕ) (a : Agent) → Good a → Good (ticked n a)
-unfolding ticked
-ticked-good zero a g = g
-ticked-good (suc n) a g = ticked-good n (tickCall a .agent) (good-next a calls.tick g tt)
+ticks-good : (n : ℕ) (a : Agent) → Good a → Good (afterTicks n a)
+unfolding afterTicks
+ticks-good zero a g = g
+ticks-good (suc n) a g = ticks-good n (tickCall a .agent) (good-next a calls.tick g tt)
 
 pub done-good : (a : Agent) (s : Step) → Good a → Sized s → Good (done a s .agent)
 unfolding Sized
-done-good a (ticks n) g h = ticked-good n a g
+done-good a (ticks n) g h = ticks-good n a g
 done-good a (frame port body) g h = good-next a (calls.frame port body 545) g h
 done-good a (inputs xs) g h = good-next a (calls.input xs) g (h .1)
 done-good a bad g h = g

@@ -10,13 +10,13 @@ use Rattle.agent_replies.specs.declared.sending.Handled.{Handled}
 use Rattle.script.specs.Forms.{Step, ticks, frame, inputs, bad}
 
 -- n ticks
-unfoldable pub ticked : ℕ → Agent → Agent
-ticked zero a = a
-ticked (suc n) a = ticked n (tickCall a .agent)
+unfoldable pub afterTicks : ℕ → Agent → Agent
+afterTicks zero a = a
+afterTicks (suc n) a = afterTicks n (tickCall a .agent)
 
 -- for ticks and inputs the answer is 0; other lines change nothing
 abbrev pub done : Agent → Step → Outcome
-done a (ticks n) = outcome accepted (ticked n a)
+done a (ticks n) = outcome accepted (afterTicks n a)
 done a (frame port body) = frameCall a port body leastRoom
 done a (inputs xs) = outcome accepted (inputCall a xs .agent)
 done a bad = outcome accepted a

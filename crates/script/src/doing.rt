@@ -4,7 +4,7 @@ ghost use Prim.Native.Nat.{_≤_};
 ghost use lib.ListN.{take, replicate};
 ghost use Rattle.rules.specs.Calls.{inputCall, frameCall};
 ghost use Rattle.script.specs.Forms.{stepIn};
-ghost use Rattle.script.specs.Doing.{ticked, done, told};
+ghost use Rattle.script.specs.Doing.{afterTicks, done, told};
 use crate::forms::Form;
 use crate::forms::IMAGE;
 use agent::calls;
@@ -21,7 +21,7 @@ pub fn no_reply() -> [u8; 545]
 }
 
 fn ticks(a: Agent, n: u64) -> Agent
-    ensures { λ r. ⌜ r ≡ ticked n a ⌝ }
+    ensures { λ r. ⌜ r ≡ afterTicks n a ⌝ }
 {
     let mut b = a;
     let mut i: u64 = 0;

@@ -81,15 +81,15 @@ stored-more out n b (some bs) = rw add-one
 
 module _ (s : List ℕ) (i : ℕ) (h : i < length s) where
   module _ (n : ℕ) (z : Hex) (inv : countOf n (hexPairs (drop i s)) ≡ z) where
-    counted : (p : Pair) → pairAt s i ≡ p → countOf n (paired p (hexPairs (drop (i + 2) s))) ≡ z
-    counted p q =
+    by-pair : (p : Pair) → pairAt s i ≡ p → countOf n (paired p (hexPairs (drop (i + 2) s))) ≡ z
+    by-pair p q =
         ap (λ (x : Pair). countOf n (paired x (hexPairs (drop (i + 2) s)))) (sym q) ∙ ap (countOf n) (sym (pairs-turn s i h)) ∙ inv
 
     pub count-byte : (b : ℕ) → pairAt s i ≡ Byte b → countOf (n + 1) (hexPairs (drop (i + 2) s)) ≡ z
-    count-byte b q = sym (count-more n b (hexPairs (drop (i + 2) s))) ∙ counted (Byte b) q
+    count-byte b q = sym (count-more n b (hexPairs (drop (i + 2) s))) ∙ by-pair (Byte b) q
 
     pub count-other : pairAt s i ≡ Other → NotHex ≡ z
-    count-other q = counted Other q
+    count-other q = by-pair Other q
 
   module _ (out : List ℕ) (n : ℕ) (z : Option (List ℕ)) (inv : stored out n (hexPairs (drop i s)) ≡ z) where
     storing : (p : Pair) → pairAt s i ≡ p → stored out n (paired p (hexPairs (drop (i + 2) s))) ≡ z

@@ -1,4 +1,4 @@
--- Laws of lines: counts, where a line ends, and the loop that takes one. Assumes nothing.
+-- Laws of lines: counts, where a line ends, and the loop that cuts one off. Assumes nothing.
 use mathlib.Core.Path.{_≡_, refl, sym, ap, ap₂, _∙_}
 use mathlib.Core.Bool.{Bool, true, false}
 use mathlib.Core.List.{List, [], _∷_}
@@ -11,42 +11,42 @@ use lib.Dec.{ltb}
 use lib.ListN.{length, drop, getD, set, length-set, drop-of-length-le}
 use lib.Seq.{sets, drop-cons}
 use Rattle.base.proofs.StoresPast.{sets-past}
-use Rattle.text.specs.Lines.{beforeEnd, counted, takenOf}
-use Rattle.text.specs.declared.lines.Taken.the-variants.{Line, More}
+use Rattle.text.specs.Lines.{beforeEnd, toldCount, lineEndOf}
+use Rattle.text.specs.declared.lines.LineEnd.the-variants.{Line, More}
 
 -- ---- counts
-pub counted-past : (room n : ℕ) → room < n → room + 1 ≡ counted room n
-unfolding counted
-counted-past room n h = simp (lt-ltb _ _ h)
+pub told-past : (room n : ℕ) → room < n → room + 1 ≡ toldCount room n
+unfolding toldCount
+told-past room n h = simp (lt-ltb _ _ h)
 
-pub counted-within : (room n : ℕ) → n ≤ room → n ≡ counted room n
-unfolding counted
-counted-within room n h = simp (le-ltb _ _ h)
+pub told-within : (room n : ℕ) → n ≤ room → n ≡ toldCount room n
+unfolding toldCount
+told-within room n h = simp (le-ltb _ _ h)
 
 -- what holds on both sides of the room holds of the count
-counted-cases : (P : ℕ → Type 0) (room n : ℕ) → (room < n → P (room + 1)) → (n ≤ room → P n) → P (counted room n)
-counted-cases P room n past within = by (ltb room n) refl
+told-cases : (P : ℕ → Type 0) (room n : ℕ) → (room < n → P (room + 1)) → (n ≤ room → P n) → P (toldCount room n)
+told-cases P room n past within = by (ltb room n) refl
   where
-    by : (t : Bool) → ltb room n ≡ t → P (counted room n)
-    by true e = rw (← counted-past room n (ltb-true _ _ e)) (past (ltb-true _ _ e))
-    by false e = rw (← counted-within room n (ltb-false _ _ e)) (within (ltb-false _ _ e))
+    by : (t : Bool) → ltb room n ≡ t → P (toldCount room n)
+    by true e = rw (← told-past room n (ltb-true _ _ e)) (past (ltb-true _ _ e))
+    by false e = rw (← told-within room n (ltb-false _ _ e)) (within (ltb-false _ _ e))
 
-counted-most : (room n : ℕ) → counted room n ≤ room + 1
-counted-most room n = counted-cases (λ k. k ≤ room + 1) room n (λ h. omega arith) (λ h. omega arith)
+told-most : (room n : ℕ) → toldCount room n ≤ room + 1
+told-most room n = told-cases (λ k. k ≤ room + 1) room n (λ h. omega arith) (λ h. omega arith)
 
 -- a count that passed the room stays there
-counted-told : (room n : ℕ) → n ≤ room + 1 → n ≡ counted room n
-counted-told room n h = counted-cases (λ k. n ≡ k) room n (λ p. omega arith) (λ p. refl)
+told-already : (room n : ℕ) → n ≤ room + 1 → n ≡ toldCount room n
+told-already room n h = told-cases (λ k. n ≡ k) room n (λ p. omega arith) (λ p. refl)
 
-pub counted-more : (room n k : ℕ) → counted room (counted room n + k) ≡ counted room (n + k)
-counted-more room n k =
-    counted-cases (λ m. counted room (m + k) ≡ counted room (n + k)) room n
-    (λ h. sym (counted-past room (room + 1 + k) (omega arith)) ∙ counted-past room (n + k) (omega arith)) (λ h. refl)
+pub told-more : (room n k : ℕ) → toldCount room (toldCount room n + k) ≡ toldCount room (n + k)
+told-more room n k =
+    told-cases (λ m. toldCount room (m + k) ≡ toldCount room (n + k)) room n
+    (λ h. sym (told-past room (room + 1 + k) (omega arith)) ∙ told-past room (n + k) (omega arith)) (λ h. refl)
 
 -- and nothing is stored behind it
-pub counted-sets : (l vs : List ℕ) (n : ℕ) → sets l (counted (length l) n) vs ≡ sets l n vs
-counted-sets l vs n =
-    counted-cases (λ m. sets l m vs ≡ sets l n vs) (length l) n
+pub told-sets : (l vs : List ℕ) (n : ℕ) → sets l (toldCount (length l) n) vs ≡ sets l n vs
+told-sets l vs n =
+    told-cases (λ m. sets l m vs ≡ sets l n vs) (length l) n
     (λ h. sets-past l (length l + 1) vs (omega arith) ∙ sym (sets-past l n vs (omega arith))) (λ h. refl)
 
 -- ---- where a line ends
@@ -79,46 +79,46 @@ module _ (s : List ℕ) (from : ℕ) (line₀ : List ℕ) (len : ℕ) where
   abbrev pub Goes : List ℕ → ℕ → ℕ → Type 0
   Goes line n i =
       (n ≤ room + 1) × (length line ≡ room) × (i + length (beforeEnd (drop i s)) ≡ from + length whole)
-      × (counted room (n + length (beforeEnd (drop i s))) ≡ counted room (len + length whole)) × (sets line n (beforeEnd (drop i s)) ≡ sets line₀ len whole)
+      × (toldCount room (n + length (beforeEnd (drop i s))) ≡ toldCount room (len + length whole)) × (sets line n (beforeEnd (drop i s)) ≡ sets line₀ len whole)
 
-  pub goes-start : (n : ℕ) → n ≡ counted room len → Goes line₀ n from
-  goes-start n e = rw e (counted-most room len, refl, refl, counted-more room len (length whole), counted-sets line₀ whole len)
+  pub goes-start : (n : ℕ) → n ≡ toldCount room len → Goes line₀ n from
+  goes-start n e = rw e (told-most room len, refl, refl, told-more room len (length whole), told-sets line₀ whole len)
 
   pub goes-turn : (line line′ : List ℕ) (n n′ i : ℕ) → Goes line n i → i < length s → (getD s i 0 ≡ 0x0A → ⊥)
-      → n′ ≡ counted (length line) (n + 1) → line′ ≡ set line n (getD s i 0) → Goes line′ n′ (i + 1)
+      → n′ ≡ toldCount (length line) (n + 1) → line′ ≡ set line n (getD s i 0) → Goes line′ n′ (i + 1)
   goes-turn line line′ n n′ i g h k p q =
       let t : List ℕ = beforeEnd (drop (i + 1) s) in
       let e : beforeEnd (drop i s) ≡ getD s i 0 ∷ t = rest-turn s i h k in
-      let p′ : n′ ≡ counted room (n + 1) = p ∙ ap (λ (m : ℕ). counted m (n + 1)) (g .1) in
+      let p′ : n′ ≡ toldCount room (n + 1) = p ∙ ap (λ (m : ℕ). toldCount m (n + 1)) (g .1) in
       let l : length (set line n (getD s i 0)) ≡ room = length-set line n (getD s i 0) ∙ g .1 in
       let c : n + 1 + length t ≡ n + length (beforeEnd (drop i s)) = omega (arith, ap length e) in (
-        omega (arith, p′, counted-most room (n + 1)),
+        omega (arith, p′, told-most room (n + 1)),
         ap length q ∙ l,
         omega (arith, g .2, ap length e),
-        ap (λ (m : ℕ). counted room (m + length t)) p′ ∙ counted-more room (n + 1) (length t) ∙ ap (counted room) c ∙ g .3,
-        ap₂ (λ (x : List ℕ) (m : ℕ). sets x m t) q (p′ ∙ ap (λ (m : ℕ). counted m (n + 1)) (sym l))
-            ∙ counted-sets (set line n (getD s i 0)) t (n + 1) ∙ ap (λ (m : ℕ). sets (set line n (getD s i 0)) m t) (add-one n)
+        ap (λ (m : ℕ). toldCount room (m + length t)) p′ ∙ told-more room (n + 1) (length t) ∙ ap (toldCount room) c ∙ g .3,
+        ap₂ (λ (x : List ℕ) (m : ℕ). sets x m t) q (p′ ∙ ap (λ (m : ℕ). toldCount m (n + 1)) (sym l))
+            ∙ told-sets (set line n (getD s i 0)) t (n + 1) ∙ ap (λ (m : ℕ). sets (set line n (getD s i 0)) m t) (add-one n)
             ∙ ap (sets line n) (sym e) ∙ g .4,
       )
 
   -- nothing is left of the line
   ended : (line : List ℕ) (n i : ℕ) → Goes line n i → beforeEnd (drop i s) ≡ []
-      → (i ≡ from + length whole) × (n ≡ counted room (len + length whole)) × (line ≡ sets line₀ len whole)
+      → (i ≡ from + length whole) × (n ≡ toldCount room (len + length whole)) × (line ≡ sets line₀ len whole)
   ended line n i g z = (
     omega (arith, g .2, ap length z),
-    counted-told room n (g .0) ∙ ap (counted room) (sym (add-zero n)) ∙ ap (λ (l : List ℕ). counted room (n + length l)) (sym z) ∙ g .3,
+    told-already room n (g .0) ∙ ap (toldCount room) (sym (add-zero n)) ∙ ap (λ (l : List ℕ). toldCount room (n + length l)) (sym z) ∙ g .3,
     ap (sets line n) (sym z) ∙ g .4,
   )
 
   module _ (line : List ℕ) (n i : ℕ) (g : Goes line n i) where
-    pub goes-line : i < length s → getD s i 0 ≡ 0x0A → (Line n (i + 1) ≡ takenOf s from room len) × (line ≡ sets line₀ len whole)
-    unfolding takenOf
+    pub goes-line : i < length s → getD s i 0 ≡ 0x0A → (Line n (i + 1) ≡ lineEndOf s from room len) × (line ≡ sets line₀ len whole)
+    unfolding lineEndOf
     goes-line h k =
         let d = ended line n i g (rest-lf s i h k) in
         (simp (← d .0, ← d .1, lt-ltb _ _ h), d .2)
 
-    pub goes-more : length s ≤ i → (More n ≡ takenOf s from room len) × (line ≡ sets line₀ len whole)
-    unfolding takenOf
+    pub goes-more : length s ≤ i → (More n ≡ lineEndOf s from room len) × (line ≡ sets line₀ len whole)
+    unfolding lineEndOf
     goes-more h =
         let d = ended line n i g (rest-none s i h) in
         (simp (← d .0, ← d .1, le-ltb _ _ h), d .2)

@@ -4,8 +4,8 @@ use Prim.Native.Nat.{ℕ, _+_}
 use lib.Dec.{eqb, ltb}
 use lib.ListN.{length, drop}
 use Rattle.base.specs.Choice.{choose}
-use Rattle.text.specs.declared.lines.Taken.{Taken}
-use Rattle.text.specs.declared.lines.Taken.the-variants.{Line, More}
+use Rattle.text.specs.declared.lines.LineEnd.{LineEnd}
+use Rattle.text.specs.declared.lines.LineEnd.the-variants.{Line, More}
 
 -- the characters before the first LF
 unfoldable pub beforeEnd : List ℕ → List ℕ
@@ -13,13 +13,13 @@ beforeEnd [] = []
 beforeEnd (c ∷ cs) = choose (eqb c 0x0A) [] (c ∷ beforeEnd cs)
 
 -- a count of characters where there is room for so many: one more stands for all above
-unfoldable pub counted : ℕ → ℕ → ℕ
-counted room n = choose (ltb room n) (room + 1) n
+unfoldable pub toldCount : ℕ → ℕ → ℕ
+toldCount room n = choose (ltb room n) (room + 1) n
 
 -- a line of which there are len characters goes on at a place of a block: complete where an LF follows, with the place
 -- behind it, else wanting more
-unfoldable pub takenOf : List ℕ → ℕ → ℕ → ℕ → Taken
-takenOf block from room len =
+unfoldable pub lineEndOf : List ℕ → ℕ → ℕ → ℕ → LineEnd
+lineEndOf block from room len =
     choose (ltb (from + length (beforeEnd (drop from block))) (length block))
-    (Line (counted room (len + length (beforeEnd (drop from block)))) (from + length (beforeEnd (drop from block)) + 1))
-    (More (counted room (len + length (beforeEnd (drop from block)))))
+    (Line (toldCount room (len + length (beforeEnd (drop from block)))) (from + length (beforeEnd (drop from block)) + 1))
+    (More (toldCount room (len + length (beforeEnd (drop from block)))))

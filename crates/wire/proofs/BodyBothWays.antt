@@ -1,4 +1,4 @@
--- A body that was laid is read back, and a body that is taken is the one that would be laid. Assumes nothing.
+-- A body that was laid is read back, and a body that is read is the one that would be laid. Assumes nothing.
 use mathlib.Core.Path.{_≡_, refl, sym, ap, ap₂, _∙_, subst}
 use mathlib.Core.Bool.{Bool, true, false}
 use mathlib.Core.List.{List, [], _∷_, _++_, append-assoc}
@@ -20,7 +20,7 @@ use Rattle.wire.specs.Stuffing.{stuff, unstuff, plainOf}
 use Rattle.wire.specs.Body.{reservedAddr, fcsOf, verdictNumber, bodyAnswer, refusedBody, checkedBody, unstuffedBody, readBody, answerToBody}
 use Rattle.wire.specs.Laying.{bodyWith, bodyOf}
 use Rattle.wire.specs.declared.body.Verdict.{Verdict}
-use Rattle.wire.specs.declared.body.Verdict.the-variants.{Taken, Length, Stuffing, Size, Check, Reserved}
+use Rattle.wire.specs.declared.body.Verdict.the-variants.{Valid, Length, Stuffing, Size, Check, Reserved}
 use Rattle.wire.specs.declared.body.Body.{Body}
 use Rattle.wire.proofs.StuffingLaws.{stuff-least, stuff-most}
 use Rattle.wire.proofs.StuffingBothWays.{unstuff-stuff, stuff-unstuff}
@@ -32,7 +32,7 @@ abbrev pub held : List ℕ → ℕ → ℕ → List ℕ
 held xs h l = sets (replicate 272 0) 0 (xs ++ (h ∷ l ∷ []))
 
 abbrev pub takenBody : ℕ → List ℕ → ℕ → ℕ → Body
-takenBody a xs h l = record { verdict = Taken; addr = a; bytes = held xs h l; len = length xs }
+takenBody a xs h l = record { verdict = Valid; addr = a; bytes = held xs h l; len = length xs }
 
 -- where the lengths are right, the answer goes by the check and the address
 abbrev answer : ℕ → List ℕ → ℕ → ℕ → Body
@@ -88,25 +88,25 @@ module _ (a : ℕ) (xs : List ℕ) (r : reservedAddr a ≡ false) (least : 4 ≤
       ∙ ap (λ (ys : List ℕ). (0, some (a, ys))) (held-data xs (fcsOf a xs / 256) (fcsOf a xs % 256) most)
 
 -- ---- read, then laid
-refused-not : (v : Verdict) (b : Body) → refusedBody v ≡ b → b .verdict ≡ Taken → (verdictNumber v ≡ 0 → ⊥) → ⊥
+refused-not : (v : Verdict) (b : Body) → refusedBody v ≡ b → b .verdict ≡ Valid → (verdictNumber v ≡ 0 → ⊥) → ⊥
 refused-not v b e t n = n (ap verdictNumber (ap (λ (x : Body). x .verdict) e ∙ t))
 
--- a taken body has 7 to 543 bytes
-taken-length : (s : List ℕ) → readBody s .verdict ≡ Taken → (7 ≤ length s) × (length s ≤ 543)
+-- a valid body has 7 to 543 bytes
+taken-length : (s : List ℕ) → readBody s .verdict ≡ Valid → (7 ≤ length s) × (length s ≤ 543)
 taken-length s t =
     in-range 7 543 (length s)
     (λ h. refused-not Length (readBody s) (body-short s h) t (λ n. omega arith))
     (λ g h. refused-not Length (readBody s) (body-long s g h) t (λ n. omega arith))
 
 -- and unstuffed, without its address, 6 to 271
-taken-size : (a : ℕ) (ys : List ℕ) → unstuffedBody a (plainOf (some ys)) .verdict ≡ Taken → (6 ≤ length ys) × (length ys ≤ 271)
+taken-size : (a : ℕ) (ys : List ℕ) → unstuffedBody a (plainOf (some ys)) .verdict ≡ Valid → (6 ≤ length ys) × (length ys ≤ 271)
 taken-size a ys t =
     in-range 6 271 (length ys)
     (λ h. refused-not Size (unstuffedBody a (plainOf (some ys))) (unstuffed-short a (plainOf (some ys)) refl h) t (λ n. omega arith))
     (λ g h. refused-not Size (unstuffedBody a (plainOf (some ys))) (unstuffed-long a (plainOf (some ys)) refl g h) t (λ n. omega arith))
 
 -- so it is an address, and data with two bytes behind them, stuffed
-stuffed-form : {P : Type 0} (s : List ℕ) → readBody s .verdict ≡ Taken
+stuffed-form : {P : Type 0} (s : List ℕ) → readBody s .verdict ≡ Valid
     → ((a h l : ℕ) (xs : List ℕ) → s ≡ a ∷ stuff (xs ++ (h ∷ l ∷ [])) → 4 ≤ length xs → length xs ≤ 269 → P) → P
 stuffed-form {P} s t k = of (unstuff (drop 1 s)) refl
   where
@@ -116,7 +116,7 @@ stuffed-form {P} s t k = of (unstuff (drop 1 s)) refl
     n : (7 ≤ length s) × (length s ≤ 543)
     n = taken-length s t
 
-    verdict-of : (o : Option (List ℕ)) → unstuff (drop 1 s) ≡ o → unstuffedBody a (plainOf o) .verdict ≡ Taken
+    verdict-of : (o : Option (List ℕ)) → unstuff (drop 1 s) ≡ o → unstuffedBody a (plainOf o) .verdict ≡ Valid
     verdict-of o e =
         ap (λ (x : Body). x .verdict)
         (ap (λ (q : Option (List ℕ)). unstuffedBody a (plainOf q)) (sym e) ∙ body-fits s (n .0) (n .1))
@@ -154,7 +154,7 @@ module _ (a h l : ℕ) (xs : List ℕ) (s : List ℕ) (e : s ≡ a ∷ stuff (xs
       let y : fcsOf a xs % 256 ≡ l = omega arith in
       rw (x, y) e
 
-  exact : Bytes s → readBody s .verdict ≡ Taken → Exact s (readBody s)
+  exact : Bytes s → readBody s .verdict ≡ Valid → Exact s (readBody s)
   exact bs t = by (eqb (fcsOf a xs) (h * 256 + l)) (reservedAddr a) refl refl
     where
       read : readBody s ≡ answer a xs h l
@@ -171,5 +171,5 @@ module _ (a h l : ℕ) (xs : List ℕ) (s : List ℕ) (e : s ≡ a ∷ stuff (xs
             most = most;
           }
 
-pub read-then-laid : (s : List ℕ) → Bytes s → readBody s .verdict ≡ Taken → Exact s (readBody s)
+pub read-then-laid : (s : List ℕ) → Bytes s → readBody s .verdict ≡ Valid → Exact s (readBody s)
 read-then-laid s bs t = stuffed-form s t (λ a h l xs e least most. exact a h l xs s e least most bs t)

@@ -10,7 +10,7 @@ use Rattle.crc.specs.declared.Poly.the-variants.{Fcs}
 use Rattle.wire.specs.Stuffing.{unstuff, plainOf}
 use Rattle.wire.specs.Body.{reservedAddr, fcsOf, refusedBody, checkedBody, unstuffedBody, readBody}
 use Rattle.wire.specs.declared.stuffing.Unstuffed.{Unstuffed}
-use Rattle.wire.specs.declared.body.Verdict.the-variants.{Taken, Length, Stuffing, Size, Check, Reserved}
+use Rattle.wire.specs.declared.body.Verdict.the-variants.{Valid, Length, Stuffing, Size, Check, Reserved}
 
 -- the FCS in two steps, the address first
 pub fcs-steps : (a : ℕ) (xs : List ℕ) → crcFrom (polyOf Fcs) (crcOf Fcs (a ∷ [])) xs ≡ fcsOf a xs
@@ -26,7 +26,7 @@ module _ (a : ℕ) (xs : List ℕ) (len check sent : ℕ) (c : check ≡ fcsOf a
   unfolding checkedBody
   checked-reserved e r = simp (← c, ← s, eq-eqb check sent e, r)
 
-  pub checked-taken : check ≡ sent → reservedAddr a ≡ false → record { verdict = Taken; addr = a; bytes = xs; len = len - 2 } ≡ checkedBody a xs len
+  pub checked-taken : check ≡ sent → reservedAddr a ≡ false → record { verdict = Valid; addr = a; bytes = xs; len = len - 2 } ≡ checkedBody a xs len
   unfolding checkedBody
   checked-taken e r = simp (← c, ← s, eq-eqb check sent e, r)
 

@@ -12,12 +12,12 @@ use Rattle.wire.specs.Answer.{Answer}
 use Rattle.wire.specs.Stuffing.{unstuff, plainOf}
 use Rattle.wire.specs.declared.stuffing.Unstuffed.{Unstuffed}
 use Rattle.wire.specs.declared.body.Verdict.{Verdict}
-use Rattle.wire.specs.declared.body.Verdict.the-variants.{Taken, Length, Stuffing, Size, Check, Reserved}
+use Rattle.wire.specs.declared.body.Verdict.the-variants.{Valid, Length, Stuffing, Size, Check, Reserved}
 use Rattle.wire.specs.declared.body.Body.{Body}
 
 -- document 01's number of each verdict and, beside 0, the address and the application data
 abbrev pub verdictAnswer : Verdict → ℕ → List ℕ → Answer (ℕ × List ℕ)
-verdictAnswer Taken a xs = (0, some (a, xs))
+verdictAnswer Valid a xs = (0, some (a, xs))
 verdictAnswer Length a xs = (1, none)
 verdictAnswer Stuffing a xs = (2, none)
 verdictAnswer Size a xs = (3, none)
@@ -48,7 +48,7 @@ refusedBody v = record { verdict = v; addr = 0; bytes = replicate 272 0; len = 0
 unfoldable pub checkedBody : ℕ → List ℕ → ℕ → Body
 checkedBody a xs len =
     choose (eqb (fcsOf a (take (len - 2) xs)) (getD xs (len - 2) 0 * 256 + getD xs (len - 2 + 1) 0))
-    (choose (reservedAddr a) (refusedBody Reserved) (record { verdict = Taken; addr = a; bytes = xs; len = len - 2 }))
+    (choose (reservedAddr a) (refusedBody Reserved) (record { verdict = Valid; addr = a; bytes = xs; len = len - 2 }))
     (refusedBody Check)
 
 -- 2, then 3: 7 to 272 bytes, the address and the FCS among them

@@ -6,9 +6,9 @@ use crate::stuffing;
 use crate::stuffing::Unstuffed;
 use crc::Poly;
 
-// What a body is answered: taken, or numbers 1 to 5.
+// What a body is answered: it is valid, or numbers 1 to 5.
 pub enum Verdict {
-    Taken,
+    Valid,
     Length,
     Stuffing,
     Size,
@@ -21,7 +21,7 @@ pub fn verdict_number(verdict: Verdict) -> u8
     ensures { λ r. ⌜ r ≡ verdictNumber verdict ⌝ }
 {
     match verdict {
-        Verdict::Taken => 0,
+        Verdict::Valid => 0,
         Verdict::Length => 1,
         Verdict::Stuffing => 2,
         Verdict::Size => 3,
@@ -83,7 +83,7 @@ fn checked(addr: u8, bytes: [u8; 272], len: usize) -> Body
         return refused(Verdict::Reserved);
     }
     Body {
-        verdict: Verdict::Taken,
+        verdict: Verdict::Valid,
         addr,
         bytes,
         len: n,

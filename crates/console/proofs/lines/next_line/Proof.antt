@@ -5,7 +5,7 @@ use Rattle.console.specs.Cursors.{told}
 use Rattle.console.specs.Handing.{Placed, Handed}
 use Rattle.console.specs.Reading as Reading
 use Rattle.console.specs.declared.blocks.Place.the-variants.{At}
-use Rattle.console.proofs.ReadingLaws.{goes-first, first-room, goes-on, goes-taken, goes-fill, next-stopped, next-told}
+use Rattle.console.proofs.ReadingLaws.{goes-first, first-room, goes-on, goes-cut, goes-fill, next-stopped, next-told}
 use Rattle.console.proofs.lines.next_line.Statement.{statement}
 use Rattle.console.proofs.lines.next_line.Tie as tie
 
@@ -68,7 +68,7 @@ loop-again c =
     let k = c .before .before .before .before .before .before .before .before .before .before .placed .result in
     let b = c .before .before .before .before .before .before .before .before .before .before .before .before .before .before .before .before .args .block .now in
     let o = goes-on (l .k) _ (c .before .before .before .before .before .before .before .done .ensures) (c .before .before .before .before .before .before .if1 .left) in
-    goes-taken (Reading.block k b) (Reading.rest k b) (k .ended) _ _ (l .k) _ (l .inv .0) (o .0) (o .1) (c .take-part .ensures .1) _ _ _ (l .inv .1) (c .take-part .ensures .0)
+    goes-cut (Reading.block k b) (Reading.rest k b) (k .ended) _ _ (l .k) _ (l .inv .0) (o .0) (o .1) (c .take-part .ensures .1) _ _ _ (l .inv .1) (c .take-part .ensures .0)
 
 write-first-requires : tie.Need-write-first-requires Inv-loop μ-loop
 write-first-requires c κs = search needs

@@ -4,7 +4,7 @@ use mathlib.Core.List.{List}
 use Prim.Native.Nat.{ℕ}
 use lib.ListN.{length, take, drop}
 use lib.Seq.{sets, length-take-le}
-use Rattle.text.specs.Lines.{beforeEnd, takenOf}
+use Rattle.text.specs.Lines.{beforeEnd, lineEndOf}
 use Rattle.console.specs.Cursors.{part}
 use borrow.Author.Needs.{needs}
 use Rattle.console.proofs.lines.take_part.Statement.{statement}
@@ -27,7 +27,7 @@ returns c =
     let a = c .before .before .before .before .before .before .args in
     let t = c .before .take-line .ensures in
     let q : take (c .before .before .before .before .least .result) (a .block .now) ≡ take (a .c .end) (a .block .now) = c .before .before .before .before .least .ensures .1 _ refl in (
-      c .part .ensures ∙ ap (part (a .c)) (t .0 ∙ ap (λ (b : List ℕ). takenOf b (a .c .at) (length (a .line .now)) (a .c .len)) q),
+      c .part .ensures ∙ ap (part (a .c)) (t .0 ∙ ap (λ (b : List ℕ). lineEndOf b (a .c .at) (length (a .line .now)) (a .c .len)) q),
       t .1 ∙ ap (λ (b : List ℕ). sets (a .line .now) (a .c .len) (beforeEnd (drop (a .c .at) b))) q,
     )
 

@@ -2,14 +2,14 @@
 use mathlib.Core.Path.{_≡_, ap}
 use Prim.Native.Nat.{ℕ, _-_}
 use native.Mathlib.Omega.{arith}
-use Rattle.script.specs.Doing.{ticked}
-use Rattle.script.proofs.DoingLaws.{ticked-turn, ticked-end}
+use Rattle.script.specs.Doing.{afterTicks}
+use Rattle.script.proofs.DoingLaws.{ticks-turn, ticks-end}
 use borrow.Author.Needs.{needs}
 use Rattle.script.proofs.doing.ticks.Statement.{statement}
 use Rattle.script.proofs.doing.ticks.Tie as tie
 
 abbrev Inv-loop : tie.InvT-loop
-Inv-loop n b₀ i₀ b i = ticked (n - i) b ≡ ticked n b₀
+Inv-loop n b₀ i₀ b i = afterTicks (n - i) b ≡ afterTicks n b₀
 
 abbrev μ-loop : tie.MeasureT-loop
 μ-loop n b₀ i₀ b i = n - i
@@ -17,7 +17,7 @@ abbrev μ-loop : tie.MeasureT-loop
 loop-holds : tie.Need-loop-holds Inv-loop μ-loop
 loop-holds c =
     let e : c .args .n - 0 ≡ c .args .n = omega arith in
-    ap (λ (m : ℕ). ticked m (c .args .a)) e
+    ap (λ (m : ℕ). afterTicks m (c .args .a)) e
 
 tick-requires : tie.Need-tick-requires Inv-loop μ-loop
 tick-requires c κs = search needs
@@ -31,10 +31,10 @@ loop-less c = search needs
 loop-again : tie.Need-loop-again Inv-loop μ-loop
 loop-again c =
     let l = c .before .before .before .loop in
-    ticked-turn _ _ (l .b) _ _ (search needs) (c .before .tick .ensures .1) (l .inv)
+    ticks-turn _ _ (l .b) _ _ (search needs) (c .before .tick .ensures .1) (l .inv)
 
 returns : tie.Need-returns Inv-loop μ-loop
-returns c = ticked-end _ _ _ _ (search needs) (c .before .loop .inv)
+returns c = ticks-end _ _ _ _ (search needs) (c .before .loop .inv)
 
 pub ticks-spec : {M : Type 1} → statement M
 ticks-spec =

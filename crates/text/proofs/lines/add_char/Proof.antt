@@ -4,7 +4,7 @@ use Prim.Native.Nat.{_+_}
 use native.Mathlib.Omega.{arith}
 use lib.ListN.{length}
 use lib.Seq.{set-out}
-use Rattle.text.proofs.LineLaws.{counted-past, counted-within}
+use Rattle.text.proofs.LineLaws.{told-past, told-within}
 use borrow.Author.Needs.{needs}
 use Rattle.text.proofs.lines.add_char.Statement.{statement}
 use Rattle.text.proofs.lines.add_char.Tie as tie
@@ -15,7 +15,7 @@ add-result c = search needs
 returns : tie.Need-returns
 returns c =
     let a = c .before .args in
-    (counted-past (length (a .line .now)) (a .len + 1) (omega arith), sym (set-out (a .line .now) (a .len) (a .c) (c .if1 .taken)))
+    (told-past (length (a .line .now)) (a .len + 1) (omega arith), sym (set-out (a .line .now) (a .len) (a .c) (c .if1 .taken)))
 
 slice-write-line : tie.Need-slice-write-line
 slice-write-line c = search needs
@@ -29,7 +29,7 @@ same-length c = search needs
 returns-2 : tie.Need-returns-2
 returns-2 c =
     let a = c .before .args in
-    (counted-within (length (a .line .now)) (a .len + 1) (omega arith), refl)
+    (told-within (length (a .line .now)) (a .len + 1) (omega arith), refl)
 
 pub add-char-spec : {M : Type 1} → statement M
 add-char-spec =

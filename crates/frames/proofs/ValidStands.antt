@@ -1,4 +1,4 @@
--- A frame that the reader takes stands in the application data, kind by kind. Assumes nothing.
+-- A frame that the reader reads stands in the application data, kind by kind. Assumes nothing.
 use mathlib.Core.Path.{_≡_, refl, subst}
 use mathlib.Core.Bool.{true, _&&_}
 use mathlib.Core.List.{List}
@@ -13,12 +13,12 @@ use Rattle.base.proofs.Choosing.{and-true, and-parts}
 use Rattle.fields.specs.Fields.{fieldsAt}
 use Rattle.frames.specs.Reading.{readSync, safeReadRequest, safeWriteRequest, readSafeRequest, readPlainRequest, safeCom, readSafeResponse, plainCom, readPlainResponse, readTidAssignment, sil2Assignment, sil4Assignment, readSidAssignment, readAcknowledgement, readInvariants, readTyp, readApp}
 use Rattle.frames.specs.Writing.{is24, fieldsFit}
-use Rattle.frames.specs.declared.reading.Read.the-variants.{Taken}
+use Rattle.frames.specs.declared.reading.Read.the-variants.{Valid}
 use Rattle.frames.specs.declared.kinds.Frame.{Frame}
 use Rattle.frames.proofs.Standing.{Stands}
 use Rattle.frames.proofs.Answers.{not-kind, not-form, either, safe-says, plain-says}
 
--- TYP and COM are `t` and `c`, the form is `p`, the CRC `q`, and `g` says which frame was taken
+-- TYP and COM are `t` and `c`, the form is `p`, the CRC `q`, and `g` says which frame was read
 module _ (a : ℕ) (s : List ℕ) (bs : Bytes s) (f : Frame) where
   small : (i : ℕ) → is24 (numberAt s i 3) ≡ true
   small i = lt-ltb (numberAt s i 3) 0x1000000 (number-below s i 3 bs)
@@ -26,7 +26,7 @@ module _ (a : ℕ) (s : List ℕ) (bs : Bytes s) (f : Frame) where
   two-small : (i j : ℕ) → (is24 (numberAt s i 3) && is24 (numberAt s j 3)) ≡ true
   two-small i j = and-true (is24 (numberAt s i 3)) (is24 (numberAt s j 3)) (small i) (small j)
 
-  sync : numberAt s 0 1 ≡ 0x00 → readSync a s ≡ Taken f → Stands a s f
+  sync : numberAt s 0 1 ≡ 0x00 → readSync a s ≡ Valid f → Stands a s f
   unfolding fieldsAt fieldsFit readSync
   sync t e = safe-says f _ s _ e (λ p q g.
       let w = and-parts (eqb (length s) 7) (eqb a 0xFF) p in
@@ -38,7 +38,7 @@ module _ (a : ℕ) (s : List ℕ) (bs : Bytes s) (f : Frame) where
         fit = and-true (is24 (numberAt s 1 3)) (eqb a 0xFF) (small 1) (w .1);
       })
 
-  safe-request : numberAt s 0 1 ≡ 0x07 → readSafeRequest s ≡ Taken f → Stands a s f
+  safe-request : numberAt s 0 1 ≡ 0x07 → readSafeRequest s ≡ Valid f → Stands a s f
   unfolding fieldsAt fieldsFit readSafeRequest safeReadRequest safeWriteRequest
   safe-request t e = either f (numberAt s 9 1) 0x88 _ _ e
       (λ c r. safe-says f _ s _ r (λ p q g. subst (Stands a s) g record {
@@ -58,7 +58,7 @@ module _ (a : ℕ) (s : List ℕ) (bs : Bytes s) (f : Frame) where
       }))
       (not-form f))
 
-  plain-request : numberAt s 0 1 ≡ 0x08 → readPlainRequest s ≡ Taken f → Stands a s f
+  plain-request : numberAt s 0 1 ≡ 0x08 → readPlainRequest s ≡ Valid f → Stands a s f
   unfolding fieldsAt fieldsFit readPlainRequest
   plain-request t e = either f (numberAt s 2 1) 0x02 _ _ e
       (λ c r. plain-says f _ _ r (λ p g. subst (Stands a s) g record {
@@ -78,7 +78,7 @@ module _ (a : ℕ) (s : List ℕ) (bs : Bytes s) (f : Frame) where
       }))
       (not-form f))
 
-  safe-response : numberAt s 0 1 ≡ 0x70 → readSafeResponse s ≡ Taken f → Stands a s f
+  safe-response : numberAt s 0 1 ≡ 0x70 → readSafeResponse s ≡ Valid f → Stands a s f
   unfolding fieldsAt fieldsFit readSafeResponse
   safe-response t e = safe-says f _ s _ e (λ p q g.
       let w = and-parts (safeCom (numberAt s 9 1) (numberAt s 10 1)) (eqb (length s) (15 + numberAt s 10 1)) p in
@@ -90,7 +90,7 @@ module _ (a : ℕ) (s : List ℕ) (bs : Bytes s) (f : Frame) where
         fit = and-true (is24 (numberAt s 1 3) && is24 (numberAt s 4 3)) (safeCom (numberAt s 9 1) (numberAt s 10 1)) (two-small 1 4) (w .0);
       })
 
-  plain-response : numberAt s 0 1 ≡ 0x80 → readPlainResponse s ≡ Taken f → Stands a s f
+  plain-response : numberAt s 0 1 ≡ 0x80 → readPlainResponse s ≡ Valid f → Stands a s f
   unfolding fieldsAt fieldsFit readPlainResponse
   plain-response t e = either f (numberAt s 2 1) 0x01 _ _ e
       (λ c r. plain-says f _ _ r (λ p g. subst (Stands a s) g record {
@@ -110,7 +110,7 @@ module _ (a : ℕ) (s : List ℕ) (bs : Bytes s) (f : Frame) where
         fit = w .0;
       }))
 
-  tid-assignment : numberAt s 0 1 ≡ 0x3C → readTidAssignment s ≡ Taken f → Stands a s f
+  tid-assignment : numberAt s 0 1 ≡ 0x3C → readTidAssignment s ≡ Valid f → Stands a s f
   unfolding fieldsAt fieldsFit readTidAssignment
   tid-assignment t e = plain-says f _ _ e (λ p g. subst (Stands a s) g record {
     head = rw t;
@@ -120,7 +120,7 @@ module _ (a : ℕ) (s : List ℕ) (bs : Bytes s) (f : Frame) where
     fit = refl;
   })
 
-  sid-assignment : numberAt s 0 1 ≡ 0xC3 → readSidAssignment s ≡ Taken f → Stands a s f
+  sid-assignment : numberAt s 0 1 ≡ 0xC3 → readSidAssignment s ≡ Valid f → Stands a s f
   unfolding fieldsAt fieldsFit readSidAssignment sil2Assignment sil4Assignment
   sid-assignment t e = either f (length s) 27 _ _ e
       (λ c r. safe-says f _ s _ r (λ p q g. subst (Stands a s) g record {
@@ -138,7 +138,7 @@ module _ (a : ℕ) (s : List ℕ) (bs : Bytes s) (f : Frame) where
         fit = two-small 1 16;
       }))
 
-  acknowledgement : numberAt s 0 1 ≡ 0x33 → readAcknowledgement s ≡ Taken f → Stands a s f
+  acknowledgement : numberAt s 0 1 ≡ 0x33 → readAcknowledgement s ≡ Valid f → Stands a s f
   unfolding fieldsAt fieldsFit readAcknowledgement
   acknowledgement t e = safe-says f _ s _ e (λ p q g. subst (Stands a s) g record {
     head = rw t;
@@ -148,7 +148,7 @@ module _ (a : ℕ) (s : List ℕ) (bs : Bytes s) (f : Frame) where
     fit = two-small 1 4;
   })
 
-  invariants : numberAt s 0 1 ≡ 0xB4 → readInvariants s ≡ Taken f → Stands a s f
+  invariants : numberAt s 0 1 ≡ 0xB4 → readInvariants s ≡ Valid f → Stands a s f
   unfolding fieldsAt fieldsFit readInvariants
   invariants t e = safe-says f _ s _ e (λ p q g. subst (Stands a s) g record {
     head = rw t;
@@ -159,7 +159,7 @@ module _ (a : ℕ) (s : List ℕ) (bs : Bytes s) (f : Frame) where
   })
 
   -- the TYP byte decides
-  pub stands : readApp a s ≡ Taken f → Stands a s f
+  pub stands : readApp a s ≡ Valid f → Stands a s f
   unfolding readApp readTyp
   stands e = either f _ _ _ _ e sync
       (λ e. either f _ _ _ _ e safe-request
