@@ -9,16 +9,16 @@ use lib.ListN.{length, take, drop, length-take, length-drop}
 use Rattle.base.specs.Bytes.{Bytes, numberAt}
 use Rattle.base.proofs.Choosing.{by-test}
 use Rattle.fields.proofs.Tables.{length-laid}
-use Rattle.frames.specs.Kinds.{headOf, dataPlace, dataIn}
-use Rattle.frames.specs.Reading.{readApp}
-use Rattle.frames.specs.declared.kinds.Frame.{Frame}
-use Rattle.frames.specs.declared.kinds.Frame.the-variants.{Sync, SafeRead, SafeWrite, PlainRead, PlainWrite, SafeResponse, PlainSyncResponse, PlainResponse, TidAssignment, SidAssignment, SidAssignment4, Acknowledgement, Invariants}
-use Rattle.frames.specs.declared.reading.Read.{Read}
-use Rattle.frames.specs.declared.reading.Read.the-variants.{Valid, Kind, Form, Check}
-use Rattle.frames.proofs.Fits.{FittingFrame}
-use Rattle.frames.proofs.Standing.{Stands, stands-fitting}
-use Rattle.frames.proofs.ValidStands.{stands}
-use Rattle.frames.proofs.kinds.Frame.{the-type}
+use Rattle.frame_kinds.specs.Kinds.{headOf, dataPlace, dataIn}
+use Rattle.frame_reading.specs.Reading.{readApp}
+use Rattle.frame_kinds.specs.declared.kinds.Frame.{Frame}
+use Rattle.frame_kinds.specs.declared.kinds.Frame.the-variants.{Sync, SafeRead, SafeWrite, PlainRead, PlainWrite, SafeResponse, PlainSyncResponse, PlainResponse, TidAssignment, SidAssignment, SidAssignment4, Acknowledgement, Invariants}
+use Rattle.frame_reading.specs.declared.reading.Read.{Read}
+use Rattle.frame_reading.specs.declared.reading.Read.the-variants.{Valid, Kind, Form, Check}
+use Rattle.frame_writing.proofs.Fits.{FittingFrame}
+use Rattle.frame_writing.proofs.Standing.{Stands, stands-fitting}
+use Rattle.frame_writing.proofs.ValidStands.{stands}
+use Rattle.frame_kinds.proofs.kinds.Frame.{the-type}
 use Rattle.rules.specs.Answers.{typ}
 use Rattle.rules.specs.FrameCall.{onKind, served, isSil4, agentRead}
 use Rattle.rules.specs.Marks.{formatMarked}

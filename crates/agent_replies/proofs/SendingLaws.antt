@@ -17,15 +17,15 @@ use Rattle.wire.specs.Laying.{leftBy}
 use Rattle.wire.specs.declared.laying.Laid.{Laid}
 use Rattle.wire.specs.declared.laying.Laid.the-variants.{Sent}
 use Rattle.wire.proofs.LayingLaws.{line-most}
-use Rattle.frames.specs.Kinds.{dataLen, appOf}
-use Rattle.frames.specs.Reading.{safeCom}
-use Rattle.frames.specs.Sized.{Sized}
-use Rattle.frames.specs.Writing.{is24, fieldsFit, fits, frameLine, writtenOf}
-use Rattle.frames.specs.declared.kinds.Frame.{Frame}
-use Rattle.frames.specs.declared.kinds.Frame.the-variants.{Sync, SafeRead, SafeWrite, PlainRead, PlainWrite, SafeResponse, PlainSyncResponse, PlainResponse, TidAssignment, SidAssignment, SidAssignment4, Acknowledgement, Invariants}
-use Rattle.frames.proofs.kinds.Frame.{the-type}
-use Rattle.frames.proofs.Sending.{sent}
-use Rattle.frames.proofs.WritingLaws.{app-bounds}
+use Rattle.frame_kinds.specs.Kinds.{dataLen, appOf}
+use Rattle.frame_reading.specs.Reading.{safeCom}
+use Rattle.frame_kinds.specs.Sized.{Sized}
+use Rattle.frame_writing.specs.Writing.{is24, fieldsFit, fits, frameLine, writtenOf}
+use Rattle.frame_kinds.specs.declared.kinds.Frame.{Frame}
+use Rattle.frame_kinds.specs.declared.kinds.Frame.the-variants.{Sync, SafeRead, SafeWrite, PlainRead, PlainWrite, SafeResponse, PlainSyncResponse, PlainResponse, TidAssignment, SidAssignment, SidAssignment4, Acknowledgement, Invariants}
+use Rattle.frame_kinds.proofs.kinds.Frame.{the-type}
+use Rattle.frame_writing.proofs.Sending.{sent}
+use Rattle.frame_writing.proofs.WritingLaws.{app-bounds}
 use Rattle.rules.specs.Registers.{statut}
 use Rattle.rules.specs.Replies.{replyData}
 use Rattle.rules.specs.declared.Agent.{Agent}

@@ -12,7 +12,7 @@ use agent_state::registers::STATUT;
 use agent_state::registers::SZ_REF;
 use agent_state::registers::number8;
 use agent_state::sources::sid_of;
-use frames::kinds::Frame;
+use frame_kinds::kinds::Frame;
 use rules::Agent;
 use rules::Deed;
 use rules::Reply;

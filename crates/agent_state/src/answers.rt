@@ -1,4 +1,4 @@
-// Document 01, "Who causes which number": the answers by name. Numbers 1 to 4 and 9 are those of `wire::body` and `frames::reading`.
+// Document 01, "Who causes which number": the answers by name. Numbers 1 to 4 and 9 are those of `wire::body` and `frame_reading::reading`.
 pub const ACCEPTED: u8 = 0;
 
 pub const RESERVED: u8 = 5;

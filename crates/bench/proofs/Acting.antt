@@ -9,9 +9,9 @@ use lib.Dec.{eqb}
 use lib.ListN.{length}
 use Rattle.base.specs.Choice.{choose}
 use Rattle.wire.specs.Body.{reservedAddr}
-use Rattle.frames.specs.Writing.{fieldsFit, fits}
-use Rattle.frames.specs.declared.kinds.Frame.{Frame}
-use Rattle.frames.specs.declared.kinds.Frame.the-variants.{Sync, SafeRead, SafeWrite, SidAssignment}
+use Rattle.frame_writing.specs.Writing.{fieldsFit, fits}
+use Rattle.frame_kinds.specs.declared.kinds.Frame.{Frame}
+use Rattle.frame_kinds.specs.declared.kinds.Frame.the-variants.{Sync, SafeRead, SafeWrite, SidAssignment}
 use Rattle.rules.specs.Answers.{elsewhere, unsound}
 use Rattle.rules.specs.Calls.{leastRoom, Call, act}
 use Rattle.rules.specs.FrameCall.{isOwn, onKind}

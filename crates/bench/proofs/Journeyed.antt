@@ -2,7 +2,7 @@
 use mathlib.Core.List.{List, [], _∷_}
 use mathlib.Core.Path.{_≡_, refl, ap, _∙_}
 use native.Mathlib.Omega.{arith}
-use Rattle.frames.specs.declared.kinds.Frame.the-variants.{Sync, SafeWrite, SidAssignment}
+use Rattle.frame_kinds.specs.declared.kinds.Frame.the-variants.{Sync, SafeWrite, SidAssignment}
 use Rattle.rules.specs.Assignments.{onFirstSid, onLaterSid, onSid}
 use Rattle.rules.specs.Calls.{tickCall}
 use Rattle.rules.specs.Fallback.{enterFallback, enterRun}

@@ -5,7 +5,7 @@ use Prim.Native.Nat.{ℕ, _<_}
 use native.Mathlib.Omega.{arith}
 use lib.ListN.{replicate}
 use lib.Seq.{sets}
-use Rattle.frames.specs.declared.kinds.Frame.the-variants.{Sync, SafeWrite, SidAssignment}
+use Rattle.frame_kinds.specs.declared.kinds.Frame.the-variants.{Sync, SafeWrite, SidAssignment}
 use Rattle.rules.specs.Assignments.{onFirstSid, onLaterSid, onSid}
 use Rattle.rules.specs.Fallback.{enterFallback, enterRun}
 use Rattle.rules.specs.PowerUp.{powerRegs, powerUp}

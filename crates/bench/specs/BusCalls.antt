@@ -4,9 +4,9 @@ use mathlib.Core.List.{List, [], _∷_}
 use Prim.Native.Nat.{ℕ, zero, suc, _+_, _%_}
 use lib.ListN.{length}
 use Rattle.wire.specs.Laying.{bodyOf}
-use Rattle.frames.specs.Kinds.{appOf}
-use Rattle.frames.specs.declared.kinds.Frame.{Frame}
-use Rattle.frames.specs.declared.kinds.Frame.the-variants.{Sync, SafeRead, SafeWrite, SidAssignment}
+use Rattle.frame_kinds.specs.Kinds.{appOf}
+use Rattle.frame_kinds.specs.declared.kinds.Frame.{Frame}
+use Rattle.frame_kinds.specs.declared.kinds.Frame.the-variants.{Sync, SafeRead, SafeWrite, SidAssignment}
 use Rattle.rules.specs.Calls.{leastRoom, Call, tick, frame, act}
 use Rattle.rules.specs.PowerUp.{powerUp}
 use Rattle.rules.specs.Requests.{firstSeq}

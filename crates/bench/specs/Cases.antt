@@ -8,8 +8,8 @@ use Rattle.crc.specs.Crc.{crcOf}
 use Rattle.crc.specs.declared.Poly.the-variants.{Fcs}
 use Rattle.wire.specs.Body.{readBody, verdictNumber}
 use Rattle.wire.specs.Stuffing.{stuff}
-use Rattle.frames.specs.Writing.{frameLine}
-use Rattle.frames.specs.declared.kinds.Frame.the-variants.{SafeResponse}
+use Rattle.frame_writing.specs.Writing.{frameLine}
+use Rattle.frame_kinds.specs.declared.kinds.Frame.the-variants.{SafeResponse}
 use Rattle.rules.specs.Calls.{Call, act}
 use Rattle.rules.specs.PowerUp.{powerUp}
 use Rattle.rules.specs.Registers.{typAt, outRep, tcyc}

@@ -1,7 +1,7 @@
 -- A list of calls with real bodies from power-up: the SID is assigned, the release is ordered, the module reaches RUN, and
 -- an output is written. Assumes nothing.
 use mathlib.Core.List.{List, [], _∷_}
-use Rattle.frames.specs.declared.kinds.Frame.the-variants.{SafeWrite}
+use Rattle.frame_kinds.specs.declared.kinds.Frame.the-variants.{SafeWrite}
 use Rattle.rules.specs.Calls.{Call}
 use Rattle.rules.specs.Registers.{outRep, outputsAt}
 use Rattle.bench.specs.BusCalls.{ownSid, ownTid, concentrator, comesOn, assigns, syncs, seqOf}

@@ -4,7 +4,7 @@ use fields::byte_field;
 use fields::id_field;
 use fields::sec_field;
 use fields::word_field;
-use frames::kinds::Frame;
+use frame_kinds::kinds::Frame;
 
 pub const LAST_KIND: u8 = 0x0C;
 

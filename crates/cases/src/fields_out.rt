@@ -1,6 +1,6 @@
 // The fields of a frame that was read: by kind, each in its width, high byte first.
 use crate::answers;
-use frames::kinds::Frame;
+use frame_kinds::kinds::Frame;
 use text::putting;
 
 // A frame's kind and the numbers of its fields, zeros behind them.

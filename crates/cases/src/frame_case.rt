@@ -2,12 +2,12 @@
 use crate::answers;
 use crate::fields_in;
 use crate::fields_out;
-use frames::kinds;
-use frames::kinds::Frame;
-use frames::reading;
-use frames::reading::Reading;
-use frames::reading::Received;
-use frames::writing;
+use frame_kinds::kinds;
+use frame_kinds::kinds::Frame;
+use frame_reading::reading;
+use frame_reading::reading::Reading;
+use frame_reading::reading::Received;
+use frame_writing::writing;
 use text::putting;
 use wire::laying::Laid;
 

@@ -8,12 +8,12 @@ use lib.ListN.{length}
 use Rattle.base.proofs.Choosing.{by-test, never, choose-true, and-left, and-right}
 use Rattle.wire.specs.Body.{readBody}
 use Rattle.wire.specs.declared.body.Verdict.the-variants as verdict
-use Rattle.frames.specs.Kinds.{dataIn}
-use Rattle.frames.specs.Writing.{is24, fieldsFit, fits}
-use Rattle.frames.specs.declared.kinds.Frame.{Frame}
-use Rattle.frames.specs.declared.kinds.Frame.the-variants.{SidAssignment}
-use Rattle.frames.specs.declared.reading.Read.the-variants.{Valid}
-use Rattle.frames.proofs.Receiving.{appIn}
+use Rattle.frame_kinds.specs.Kinds.{dataIn}
+use Rattle.frame_writing.specs.Writing.{is24, fieldsFit, fits}
+use Rattle.frame_kinds.specs.declared.kinds.Frame.{Frame}
+use Rattle.frame_kinds.specs.declared.kinds.Frame.the-variants.{SidAssignment}
+use Rattle.frame_reading.specs.declared.reading.Read.the-variants.{Valid}
+use Rattle.frame_reading.proofs.Receiving.{appIn}
 use Rattle.rules.specs.Calls.{tickCall, Call, tick, input, frame, act}
 use Rattle.rules.specs.Good.{Good, BytesCall}
 use Rattle.rules.specs.Inputs.{withInputs}

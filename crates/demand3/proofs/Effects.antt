@@ -8,8 +8,8 @@ use lib.Dec.{eqb, ltb, leb}
 use lib.ListN.{length, getD}
 use Rattle.base.specs.Choice.{choose}
 use Rattle.wire.specs.Laying.{bodyOf}
-use Rattle.frames.specs.Kinds.{appOf}
-use Rattle.frames.specs.declared.kinds.Frame.the-variants.{SafeWrite}
+use Rattle.frame_kinds.specs.Kinds.{appOf}
+use Rattle.frame_kinds.specs.declared.kinds.Frame.the-variants.{SafeWrite}
 use Rattle.rules.specs.Calls.{Call, frame}
 use Rattle.rules.specs.Fallback.{released, withheld}
 use Rattle.rules.specs.Registers.{outputsAt}

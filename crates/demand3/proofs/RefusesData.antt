@@ -16,8 +16,8 @@ use Rattle.wire.specs.Laying.{bodyOf, bodyWith}
 use Rattle.wire.specs.Stuffing.{stuff, stuffByte}
 use Rattle.wire.specs.Body.{fcsOf}
 use Rattle.wire.proofs.StuffingLaws.{stuff-least}
-use Rattle.frames.specs.Kinds.{headOf, tailOf, appOf, sealed}
-use Rattle.frames.specs.declared.kinds.Frame.the-variants.{SafeWrite}
+use Rattle.frame_kinds.specs.Kinds.{headOf, tailOf, appOf, sealed}
+use Rattle.frame_kinds.specs.declared.kinds.Frame.the-variants.{SafeWrite}
 use Rattle.rules.specs.Answers.{accepted}
 use Rattle.rules.specs.Calls.{frame}
 use Rattle.rules.specs.Registers.{outputsAt, image}

@@ -7,8 +7,8 @@ use native.Mathlib.Omega.{arith}
 use borrow.Author.Tests.{eqb-true}
 use lib.ListN.{length}
 use Rattle.base.proofs.Choosing.{and-right}
-use Rattle.frames.specs.Writing.{fieldsFit, fits}
-use Rattle.frames.specs.declared.kinds.Frame.the-variants.{SafeWrite}
+use Rattle.frame_writing.specs.Writing.{fieldsFit, fits}
+use Rattle.frame_kinds.specs.declared.kinds.Frame.the-variants.{SafeWrite}
 use Rattle.rules.specs.Requests.{Ask, writes, distance}
 use Rattle.rules.specs.Sources.{sidOf}
 use Rattle.rules.specs.State.{withTaken}

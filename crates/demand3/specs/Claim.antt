@@ -6,8 +6,8 @@ use mathlib.Core.Path.{_≡_}
 use Prim.Native.Nat.{ℕ, _+_, _-_, _≤_, _<_}
 use lib.ListN.{length, getD}
 use Rattle.wire.specs.Laying.{bodyOf}
-use Rattle.frames.specs.Kinds.{appOf}
-use Rattle.frames.specs.declared.kinds.Frame.the-variants.{SafeWrite}
+use Rattle.frame_kinds.specs.Kinds.{appOf}
+use Rattle.frame_kinds.specs.declared.kinds.Frame.the-variants.{SafeWrite}
 use Rattle.rules.specs.Calls.{Call, frame}
 use Rattle.rules.specs.Good.{BytesCall}
 use Rattle.rules.specs.PowerUp.{powerUp}

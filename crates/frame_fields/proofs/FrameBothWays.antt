@@ -2,10 +2,10 @@
 use mathlib.Core.Path.{_≡_}
 use Prim.Native.Nat.{ℕ}
 use native.Mathlib.Nat.{mod-eq-of-lt}
-use Rattle.frames.specs.Kinds.{dataLen}
-use Rattle.frames.specs.Sized.{Sized}
-use Rattle.frames.specs.declared.kinds.Frame.{Frame}
-use Rattle.frames.specs.declared.kinds.Frame.the-variants.{Sync, SafeRead, SafeWrite, PlainRead, PlainWrite, SafeResponse, PlainSyncResponse, PlainResponse, TidAssignment, SidAssignment, SidAssignment4, Acknowledgement, Invariants}
+use Rattle.frame_kinds.specs.Kinds.{dataLen}
+use Rattle.frame_kinds.specs.Sized.{Sized}
+use Rattle.frame_kinds.specs.declared.kinds.Frame.{Frame}
+use Rattle.frame_kinds.specs.declared.kinds.Frame.the-variants.{Sync, SafeRead, SafeWrite, PlainRead, PlainWrite, SafeResponse, PlainSyncResponse, PlainResponse, TidAssignment, SidAssignment, SidAssignment4, Acknowledgement, Invariants}
 use Rattle.frame_fields.specs.Numbers.{kindOf, numbersOf, frameOf}
 
 pub frame-back : (a : ℕ) (f : Frame) → Sized f → frameOf (kindOf f) (numbersOf a f) (dataLen f) ≡ f

@@ -2,9 +2,9 @@
 -- of a line says of digits is what `headOf` and `tailOf` say of widths. Assumes nothing.
 use mathlib.Core.List.{List, [], _∷_, _++_}
 use Prim.Native.Nat.{ℕ, _*_}
-use Rattle.frames.specs.Kinds.{headOf, tailOf}
-use Rattle.frames.specs.declared.kinds.Frame.{Frame}
-use Rattle.frames.specs.declared.kinds.Frame.the-variants.{Sync, SafeRead, SafeWrite, PlainRead, PlainWrite, SafeResponse, PlainSyncResponse, PlainResponse, TidAssignment, SidAssignment, SidAssignment4, Acknowledgement, Invariants}
+use Rattle.frame_kinds.specs.Kinds.{headOf, tailOf}
+use Rattle.frame_kinds.specs.declared.kinds.Frame.{Frame}
+use Rattle.frame_kinds.specs.declared.kinds.Frame.the-variants.{Sync, SafeRead, SafeWrite, PlainRead, PlainWrite, SafeResponse, PlainSyncResponse, PlainResponse, TidAssignment, SidAssignment, SidAssignment4, Acknowledgement, Invariants}
 use Rattle.frame_words.specs.Table.{Field, fieldsOf}
 use Rattle.frame_fields.specs.Numbers.{kindOf, numbersOf}
 

@@ -2,8 +2,8 @@
 ghost use mathlib.Core.Path.{_≡_};
 ghost use Rattle.frame_fields.specs.Numbers.{kindOf, numbersOf, frameOf, hasAddress, addressOf, datlOf};
 ghost use Rattle.frame_fields.specs.Numbers.{low8 as Numbers·low8, low16 as Numbers·low16, low32 as Numbers·low32};
+use frame_kinds::kinds::Frame;
 use frame_words::table::Kind;
-use frames::kinds::Frame;
 
 pub const SYNC_ADDRESS: u8 = 0xFF;
 

@@ -11,10 +11,10 @@ use Rattle.wire.specs.Laying.{bodyOf, leftBy}
 use Rattle.wire.specs.declared.laying.Laid.{Laid}
 use Rattle.wire.specs.declared.laying.Laid.the-variants.{Sent}
 use Rattle.wire.proofs.LayingLaws.{line-least, body-between}
-use Rattle.frames.specs.Kinds.{appOf}
-use Rattle.frames.specs.Writing.{frameLine, writtenOf}
-use Rattle.frames.specs.declared.kinds.Frame.{Frame}
-use Rattle.frames.proofs.Sending.{sent-says}
+use Rattle.frame_kinds.specs.Kinds.{appOf}
+use Rattle.frame_writing.specs.Writing.{frameLine, writtenOf}
+use Rattle.frame_kinds.specs.declared.kinds.Frame.{Frame}
+use Rattle.frame_writing.proofs.Sending.{sent-says}
 use Rattle.frame_words.specs.Texts.{noText, put}
 use Rattle.framing.specs.Answers.{byLaid, frameBuilt}
 use Rattle.frame_words.specs.declared.texts.Text.{Text}

@@ -10,12 +10,12 @@ use Rattle.text.proofs.PuttingLaws.{text-length}
 use Rattle.wire.specs.Body.{reservedAddr, fcsOf}
 use Rattle.wire.specs.Laying.{bodyOf}
 use Rattle.wire.proofs.LayingLaws.{line-most, line-length}
-use Rattle.frames.specs.Kinds.{appOf}
-use Rattle.frames.specs.Sized.{Sized}
-use Rattle.frames.specs.Writing.{fits, frameLine}
-use Rattle.frames.specs.declared.kinds.Frame.{Frame}
-use Rattle.frames.proofs.Sending.{sent}
-use Rattle.frames.proofs.WritingLaws.{app-bounds}
+use Rattle.frame_kinds.specs.Kinds.{appOf}
+use Rattle.frame_kinds.specs.Sized.{Sized}
+use Rattle.frame_writing.specs.Writing.{fits, frameLine}
+use Rattle.frame_kinds.specs.declared.kinds.Frame.{Frame}
+use Rattle.frame_writing.proofs.Sending.{sent}
+use Rattle.frame_writing.proofs.WritingLaws.{app-bounds}
 use Rattle.frame_words.specs.Texts.{textIn}
 use Rattle.frame_words.proofs.TextLaws.{text-is}
 use Rattle.framing.specs.Answers.{frameBuilt}

@@ -11,12 +11,12 @@ use Rattle.base.specs.Bytes.{bytesOf}
 use Rattle.base.proofs.Numbers.{length-bytesOf}
 use Rattle.base.proofs.Sets.{sets-front}
 use Rattle.text.specs.Putting.{hexText}
-use Rattle.frames.specs.Kinds.{dataLen}
-use Rattle.frames.specs.Sized.{Sized}
-use Rattle.frames.specs.declared.kinds.Frame.{Frame}
-use Rattle.frames.specs.declared.kinds.Frame.the-variants.{Sync, SafeRead, SafeWrite, PlainRead, PlainWrite, SafeResponse, PlainSyncResponse, PlainResponse, TidAssignment, SidAssignment, SidAssignment4, Acknowledgement, Invariants}
-use Rattle.frames.specs.Reading.{readFrame}
-use Rattle.frames.specs.declared.reading.Received.{Received}
+use Rattle.frame_kinds.specs.Kinds.{dataLen}
+use Rattle.frame_kinds.specs.Sized.{Sized}
+use Rattle.frame_kinds.specs.declared.kinds.Frame.{Frame}
+use Rattle.frame_kinds.specs.declared.kinds.Frame.the-variants.{Sync, SafeRead, SafeWrite, PlainRead, PlainWrite, SafeResponse, PlainSyncResponse, PlainResponse, TidAssignment, SidAssignment, SidAssignment4, Acknowledgement, Invariants}
+use Rattle.frame_reading.specs.Reading.{readFrame}
+use Rattle.frame_reading.specs.declared.reading.Received.{Received}
 use Rattle.frame_words.specs.Chars.{chars}
 use Rattle.frame_words.specs.Words.{wordAt}
 use Rattle.frame_words.specs.Table.{fieldsFrom, fieldsOf, hasData, kindWord}

@@ -9,12 +9,12 @@ use Rattle.text.specs.Putting.{hexText}
 use Rattle.wire.specs.Laying.{bodyOf, laidAnswer}
 use Rattle.wire.specs.declared.laying.Laid.{Laid}
 use Rattle.wire.specs.declared.laying.Laid.the-variants as laid
-use Rattle.frames.specs.Kinds.{appOf, dataLen, isSafe}
-use Rattle.frames.specs.Reading.{readFrame}
-use Rattle.frames.specs.Writing.{writtenOf}
-use Rattle.frames.specs.declared.kinds.Frame.{Frame}
-use Rattle.frames.specs.declared.reading.Reading.{Reading}
-use Rattle.frames.specs.declared.reading.Reading.the-variants.{Valid, Length, Stuffing, Size, Fcs, Reserved, Kind, Form, Check}
+use Rattle.frame_kinds.specs.Kinds.{appOf, dataLen, isSafe}
+use Rattle.frame_reading.specs.Reading.{readFrame}
+use Rattle.frame_writing.specs.Writing.{writtenOf}
+use Rattle.frame_kinds.specs.declared.kinds.Frame.{Frame}
+use Rattle.frame_reading.specs.declared.reading.Reading.{Reading}
+use Rattle.frame_reading.specs.declared.reading.Reading.the-variants.{Valid, Length, Stuffing, Size, Fcs, Reserved, Kind, Form, Check}
 use Rattle.frame_words.specs.Chars.{chars}
 use Rattle.frame_words.specs.Table.{Field, kindWord, fieldsOf, hasData}
 use Rattle.frame_fields.specs.Numbers.{kindOf, numbersOf, frameOf, addressOf, datlOf}

@@ -7,12 +7,12 @@ ghost use Rattle.frame_words.specs.Texts.{noText, put};
 ghost use Rattle.framing.specs.Answers.{frameBuilt, builtText};
 use crate::said;
 use frame_fields::numbers;
+use frame_kinds::kinds::Frame;
+use frame_reading::reading::Reading;
 use frame_words::table::Kind;
 use frame_words::texts;
 use frame_words::texts::Text;
-use frames::kinds::Frame;
-use frames::reading::Reading;
-use frames::writing;
+use frame_writing::writing;
 use wire::laying::Laid;
 
 // What stands between the flags of a line of n bytes.

@@ -6,22 +6,22 @@ ghost use Rattle.base.specs.Choice.{choose};
 ghost use Rattle.base.specs.Bytes.{bytesOf};
 ghost use Rattle.fields.specs.Fields.{width8};
 ghost use Rattle.text.specs.Putting.{hexText};
-ghost use Rattle.frames.specs.Kinds.{isSafe};
+ghost use Rattle.frame_kinds.specs.Kinds.{isSafe};
 ghost use Rattle.frame_words.specs.Words.{wordAt};
 ghost use Rattle.frame_words.specs.Table.{fieldsIn};
 ghost use Rattle.frame_words.specs.Texts.{put};
 ghost use Rattle.framing.specs.Answers.{putField, putFields, dataOf, frameText, explainedText};
 use crate::said;
 use frame_fields::numbers;
+use frame_kinds::kinds;
+use frame_kinds::kinds::Frame;
+use frame_kinds::number;
+use frame_reading::reading;
+use frame_reading::reading::Reading;
 use frame_words::table;
 use frame_words::table::Form;
 use frame_words::texts;
 use frame_words::texts::Text;
-use frames::kinds;
-use frames::kinds::Frame;
-use frames::number;
-use frames::reading;
-use frames::reading::Reading;
 
 // The bytes of so many hex digits, at most 8.
 fn width_of(digits: u8) -> usize

@@ -3,14 +3,14 @@ ghost use mathlib.Core.Path.{_≡_};
 ghost use mathlib.Core.List.{[], _∷_};
 ghost use Prim.Native.Nat.{_*_, _<_};
 ghost use lib.ListN.{getD};
-ghost use Rattle.frames.specs.Reading.{readingNumber};
+ghost use Rattle.frame_reading.specs.Reading.{readingNumber};
 ghost use Rattle.frame_words.specs.Words.{wordAt};
 ghost use Rattle.framing.specs.Said.{badStart, badText, wants, refusedStart, refusedReading};
+use frame_reading::reading::Reading;
+use frame_reading::reading::reading_number;
 use frame_words::table::Form;
 use frame_words::texts;
 use frame_words::texts::Text;
-use frames::reading::Reading;
-use frames::reading::reading_number;
 
 // The line's number, before the first thing that is wrong.
 fn bad_start(number: &[u8]) -> Text

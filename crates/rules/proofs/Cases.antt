@@ -14,13 +14,13 @@ use Rattle.base.proofs.Choosing.{by-test, and-left, and-right, or-left-false, o
 use Rattle.wire.specs.Body.{readBody}
 use Rattle.wire.specs.declared.body.Verdict.{Verdict}
 use Rattle.wire.specs.declared.body.Verdict.the-variants as verdict
-use Rattle.frames.specs.Kinds.{dataIn}
-use Rattle.frames.specs.declared.kinds.Frame.{Frame}
-use Rattle.frames.specs.declared.kinds.Frame.the-variants.{Sync, SafeRead, SafeWrite, PlainRead, PlainWrite, SafeResponse, PlainSyncResponse, PlainResponse, TidAssignment, SidAssignment, SidAssignment4, Acknowledgement, Invariants}
-use Rattle.frames.specs.declared.reading.Read.{Read}
-use Rattle.frames.specs.declared.reading.Read.the-variants.{Valid, Kind, Form, Check}
-use Rattle.frames.specs.Writing.{frameLine}
-use Rattle.frames.proofs.Receiving.{appIn}
+use Rattle.frame_kinds.specs.Kinds.{dataIn}
+use Rattle.frame_kinds.specs.declared.kinds.Frame.{Frame}
+use Rattle.frame_kinds.specs.declared.kinds.Frame.the-variants.{Sync, SafeRead, SafeWrite, PlainRead, PlainWrite, SafeResponse, PlainSyncResponse, PlainResponse, TidAssignment, SidAssignment, SidAssignment4, Acknowledgement, Invariants}
+use Rattle.frame_reading.specs.declared.reading.Read.{Read}
+use Rattle.frame_reading.specs.declared.reading.Read.the-variants.{Valid, Kind, Form, Check}
+use Rattle.frame_writing.specs.Writing.{frameLine}
+use Rattle.frame_reading.proofs.Receiving.{appIn}
 use Rattle.rules.specs.Answers.{accepted, bodyLength, stuffing, unstuffedLength, fcs, reserved, elsewhere, typ, form, crc, source, addressee, cycle, repeat, outOfOrder, tooMany, outsideRules, notAllowed, eightOthers, unsound, replyRoom, hostInput}
 use Rattle.rules.specs.Assignments.{assignable, onTid, onFirstSid, onLaterSid, onSid}
 use Rattle.rules.specs.Calls.{leastRoom, tickCall, inputCall, frameCall, Call, tick, input, frame, act}

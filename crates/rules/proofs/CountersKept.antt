@@ -12,8 +12,8 @@ use lib.Dec.{eqb, ltb}
 use lib.ListN.{length, getD}
 use Rattle.base.proofs.Choosing.{by-test, never}
 use Rattle.base.proofs.Stored.{stored-before, stored-behind}
-use Rattle.frames.specs.declared.kinds.Frame.{Frame}
-use Rattle.frames.specs.declared.kinds.Frame.the-variants.{SafeWrite}
+use Rattle.frame_kinds.specs.declared.kinds.Frame.{Frame}
+use Rattle.frame_kinds.specs.declared.kinds.Frame.the-variants.{SafeWrite}
 use Rattle.rules.specs.Answers.{cycle, outsideRules, accepted}
 use Rattle.rules.specs.Calls.{Call, frame, act}
 use Rattle.rules.specs.Counters.{Brings, brings, as-before, written, Counts}

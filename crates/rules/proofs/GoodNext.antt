@@ -10,10 +10,10 @@ use Rattle.base.specs.Bytes.{Bytes}
 use Rattle.base.proofs.Bytes.{bytes-take, bytes-drop}
 use Rattle.wire.specs.Body.{readBody}
 use Rattle.wire.proofs.ReadBytes.{data-bytes}
-use Rattle.frames.specs.Kinds.{dataLen, dataPlace}
-use Rattle.frames.specs.declared.kinds.Frame.{Frame}
-use Rattle.frames.proofs.Fits.{FittingFrame}
-use Rattle.frames.proofs.Receiving.{appIn}
+use Rattle.frame_kinds.specs.Kinds.{dataLen, dataPlace}
+use Rattle.frame_kinds.specs.declared.kinds.Frame.{Frame}
+use Rattle.frame_writing.proofs.Fits.{FittingFrame}
+use Rattle.frame_reading.proofs.Receiving.{appIn}
 use Rattle.rules.specs.Calls.{Call, act}
 use Rattle.rules.specs.Good.{Good, BytesCall}
 use Rattle.rules.specs.Marks.{sequenceMarked}

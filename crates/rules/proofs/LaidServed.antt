@@ -13,17 +13,17 @@ use Rattle.base.proofs.Choosing.{never, and-left, and-right}
 use Rattle.wire.specs.Body.{reservedAddr, fcsOf}
 use Rattle.wire.specs.Laying.{bodyOf}
 use Rattle.wire.proofs.BodyBothWays.{held-data, laid-then-read}
-use Rattle.frames.specs.Kinds.{dataLen, appOf}
-use Rattle.frames.specs.Sized.{Sized}
-use Rattle.frames.specs.Writing.{fieldsFit, fits}
-use Rattle.frames.specs.declared.kinds.Frame.{Frame}
-use Rattle.frames.specs.declared.kinds.Frame.the-variants.{Sync, SafeRead, SafeWrite, PlainRead, PlainWrite, SafeResponse, PlainSyncResponse, PlainResponse, TidAssignment, SidAssignment, SidAssignment4, Acknowledgement, Invariants}
-use Rattle.frames.specs.declared.reading.Read.{Read}
-use Rattle.frames.specs.declared.reading.Read.the-variants.{Valid}
-use Rattle.frames.proofs.BothWays.{written-then-read}
-use Rattle.frames.proofs.Fits.{fitting}
-use Rattle.frames.proofs.LineBothWays.{app-range}
-use Rattle.frames.proofs.Standing.{Stands, written-stands}
+use Rattle.frame_kinds.specs.Kinds.{dataLen, appOf}
+use Rattle.frame_kinds.specs.Sized.{Sized}
+use Rattle.frame_writing.specs.Writing.{fieldsFit, fits}
+use Rattle.frame_kinds.specs.declared.kinds.Frame.{Frame}
+use Rattle.frame_kinds.specs.declared.kinds.Frame.the-variants.{Sync, SafeRead, SafeWrite, PlainRead, PlainWrite, SafeResponse, PlainSyncResponse, PlainResponse, TidAssignment, SidAssignment, SidAssignment4, Acknowledgement, Invariants}
+use Rattle.frame_reading.specs.declared.reading.Read.{Read}
+use Rattle.frame_reading.specs.declared.reading.Read.the-variants.{Valid}
+use Rattle.frame_writing.proofs.BothWays.{written-then-read}
+use Rattle.frame_writing.proofs.Fits.{fitting}
+use Rattle.frame_writing.proofs.LineBothWays.{app-range}
+use Rattle.frame_writing.proofs.Standing.{Stands, written-stands}
 use Rattle.rules.specs.Answers.{elsewhere, unsound}
 use Rattle.rules.specs.Calls.{leastRoom, frameCall}
 use Rattle.rules.specs.FrameCall.{onKind, serves, served, isSil4, agentRead, onRead, isOwn, onApp, onBody, onFrame}

@@ -6,7 +6,7 @@ use Prim.Native.Nat.{ℕ}
 use borrow.Author.Tests.{eqb-false}
 use lib.Dec.{eqb}
 use Rattle.base.proofs.Choosing.{never}
-use Rattle.frames.specs.declared.kinds.Frame.{Frame}
+use Rattle.frame_kinds.specs.declared.kinds.Frame.{Frame}
 use Rattle.rules.specs.Answers.{unsound}
 use Rattle.rules.specs.Calls.{Call, act}
 use Rattle.rules.specs.Good.{Good}

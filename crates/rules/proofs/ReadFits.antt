@@ -3,12 +3,12 @@ use mathlib.Core.Path.{_≡_}
 use mathlib.Core.List.{List}
 use Prim.Native.Nat.{ℕ}
 use Rattle.base.specs.Bytes.{Bytes}
-use Rattle.frames.specs.Reading.{readApp}
-use Rattle.frames.specs.declared.kinds.Frame.{Frame}
-use Rattle.frames.specs.declared.reading.Read.the-variants.{Valid}
-use Rattle.frames.proofs.Fits.{FittingFrame}
-use Rattle.frames.proofs.Standing.{stands-fitting}
-use Rattle.frames.proofs.ValidStands.{stands}
+use Rattle.frame_reading.specs.Reading.{readApp}
+use Rattle.frame_kinds.specs.declared.kinds.Frame.{Frame}
+use Rattle.frame_reading.specs.declared.reading.Read.the-variants.{Valid}
+use Rattle.frame_writing.proofs.Fits.{FittingFrame}
+use Rattle.frame_writing.proofs.Standing.{stands-fitting}
+use Rattle.frame_writing.proofs.ValidStands.{stands}
 
 pub read-fitting : (a : ℕ) (s : List ℕ) (f : Frame) → Bytes s → readApp a s ≡ Valid f → FittingFrame f
 read-fitting a s f bs e = stands-fitting a s f bs (stands a s bs f e)

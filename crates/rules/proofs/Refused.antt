@@ -8,7 +8,7 @@ use native.Mathlib.Omega.{arith}
 use borrow.Author.Tests.{eqb-true, leb-true, le-leb}
 use lib.Dec.{eqb, leb}
 use Rattle.base.proofs.Choosing.{never, and-left, and-right, and-true, or-cases}
-use Rattle.frames.specs.declared.kinds.Frame.{Frame}
+use Rattle.frame_kinds.specs.declared.kinds.Frame.{Frame}
 use Rattle.rules.specs.Answers.{accepted, bodyLength, eightOthers, cycle, elsewhere, crc, source, addressee, repeat, replyRoom, hostInput}
 use Rattle.rules.specs.Calls.{Call, frame, act}
 use Rattle.rules.specs.Refusals.{Change, nothing, isRefusal, rowOf, changed, leavesAll, readOf, isSync, readsSync, syncInRun, Refused}

@@ -10,13 +10,13 @@ use Rattle.base.specs.Bytes.{Bytes, numberAt}
 use Rattle.base.specs.Choice.{choose}
 use Rattle.base.proofs.Choosing.{never}
 use Rattle.fields.specs.Fields.{fieldsAt, numbers}
-use Rattle.frames.specs.Reading.{readApp}
-use Rattle.frames.specs.declared.kinds.Frame.{Frame}
-use Rattle.frames.specs.declared.kinds.Frame.the-variants.{Sync, SafeRead, SafeWrite, PlainRead, PlainWrite, SafeResponse, PlainSyncResponse, PlainResponse, TidAssignment, SidAssignment, SidAssignment4, Acknowledgement, Invariants}
-use Rattle.frames.specs.declared.reading.Read.{Read}
-use Rattle.frames.specs.declared.reading.Read.the-variants.{Valid, Kind, Form}
-use Rattle.frames.proofs.Standing.{Stands}
-use Rattle.frames.proofs.ValidStands.{stands}
+use Rattle.frame_reading.specs.Reading.{readApp}
+use Rattle.frame_kinds.specs.declared.kinds.Frame.{Frame}
+use Rattle.frame_kinds.specs.declared.kinds.Frame.the-variants.{Sync, SafeRead, SafeWrite, PlainRead, PlainWrite, SafeResponse, PlainSyncResponse, PlainResponse, TidAssignment, SidAssignment, SidAssignment4, Acknowledgement, Invariants}
+use Rattle.frame_reading.specs.declared.reading.Read.{Read}
+use Rattle.frame_reading.specs.declared.reading.Read.the-variants.{Valid, Kind, Form}
+use Rattle.frame_writing.proofs.Standing.{Stands}
+use Rattle.frame_writing.proofs.ValidStands.{stands}
 use Rattle.rules.specs.FrameCall.{serves, served, isSil4, agentRead}
 
 -- which arms of the choice a frame can have come through

@@ -9,10 +9,10 @@ use lib.Bits.{bitAnd}
 use lib.ListN.{length, take}
 use Rattle.base.specs.Choice.{within}
 use Rattle.wire.specs.Body.{readBody}
-use Rattle.frames.specs.Kinds.{dataIn}
-use Rattle.frames.specs.declared.kinds.Frame.{Frame}
-use Rattle.frames.specs.declared.kinds.Frame.the-variants.{SafeWrite}
-use Rattle.frames.specs.declared.reading.Read.the-variants.{Valid}
+use Rattle.frame_kinds.specs.Kinds.{dataIn}
+use Rattle.frame_kinds.specs.declared.kinds.Frame.{Frame}
+use Rattle.frame_kinds.specs.declared.kinds.Frame.the-variants.{SafeWrite}
+use Rattle.frame_reading.specs.declared.reading.Read.the-variants.{Valid}
 use Rattle.rules.specs.Answers.{accepted, typ, cycle, outOfOrder}
 use Rattle.rules.specs.Calls.{Call, frame}
 use Rattle.rules.specs.Marks.{counter}

@@ -1,6 +1,6 @@
 // The state of the module's bus agent. What the calls do to it is defined in specs/, in the order of document 01.
 
-use frames::kinds::Frame;
+use frame_kinds::kinds::Frame;
 ghost use mathlib.Core.Path.{_≡_};
 
 // Plain unsigned numbers and arrays only: every bit pattern that a host hands in is a value, and soundness decides.

@@ -3,8 +3,8 @@ use mathlib.Core.Path.{_≡_, _∙_}
 use native.Mathlib.Omega.{arith}
 use lib.ListN.{length, length-set}
 use borrow.Author.Needs.{needs}
-use Rattle.frames.proofs.Typed.{typed}
-use Rattle.frames.specs.Sized.{Sized}
+use Rattle.frame_kinds.proofs.Typed.{typed}
+use Rattle.frame_kinds.specs.Sized.{Sized}
 use Rattle.rules.specs.Registers.{statut}
 use Rattle.agent_replies.proofs.SendingLaws.{part-inside, part-lent, reply-most, sent-length, sent-left}
 use Rattle.agent_replies.proofs.sending.lay_reply.Statement.{statement}

@@ -3,7 +3,7 @@ use mathlib.Core.Path.{_≡_}
 use Prim.Native.Nat.{_+_, _-_, _≤_}
 use native.Mathlib.Omega.{arith}
 use Rattle.framing.specs.Answers.{dataOf}
-use Rattle.frames.proofs.Typed.{typed}
+use Rattle.frame_kinds.proofs.Typed.{typed}
 use Rattle.framing.proofs.ExplainingLaws.{data-most}
 use borrow.Author.Needs.{needs}
 use Rattle.framing.proofs.explaining.add_data.Statement.{statement}

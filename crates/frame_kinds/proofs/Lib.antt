@@ -1,0 +1,4 @@
+pub mod Parts
+pub mod AppRuns
+pub mod Typed
+pub mod Held

@@ -1,0 +1,192 @@
+-- Frames as they are read: numbers 7, 8 and 9 of application data, and 1 to 5 of the body before them.
+-- `numberAt s position length` is a field. Assumes nothing.
+use mathlib.Core.Bool.{Bool, true, false, _&&_, _||_}
+use mathlib.Core.List.{List, []}
+use mathlib.Core.Option.{none, some}
+use Prim.Native.Nat.{ℕ, _+_, _-_}
+use lib.Dec.{eqb, ltb}
+use lib.ListN.{length, take, replicate}
+use Rattle.base.specs.Choice.{choose}
+use Rattle.base.specs.Bytes.{numberAt}
+use Rattle.crc.specs.Crc.{crcOf}
+use Rattle.crc.specs.declared.Poly.the-variants.{Safety}
+use Rattle.wire.specs.Answer.{Answer, andThen}
+use Rattle.wire.specs.Body.{readBody, answerToBody}
+use Rattle.wire.specs.declared.body.Body.{Body}
+use Rattle.wire.specs.declared.body.Verdict.{Verdict}
+use Rattle.wire.specs.declared.body.Verdict.the-variants as verdict
+use Rattle.frame_kinds.specs.Kinds.{dataIn}
+use Rattle.frame_kinds.specs.declared.kinds.Frame.{Frame}
+use Rattle.frame_kinds.specs.declared.kinds.Frame.the-variants.{Sync, SafeRead, SafeWrite, PlainRead, PlainWrite, SafeResponse, PlainSyncResponse, PlainResponse, TidAssignment, SidAssignment, SidAssignment4, Acknowledgement, Invariants}
+use Rattle.frame_reading.specs.declared.reading.Read.{Read}
+use Rattle.frame_reading.specs.declared.reading.Read.the-variants.{Valid, Kind, Form, Check}
+use Rattle.frame_reading.specs.declared.reading.Reading.{Reading}
+use Rattle.frame_reading.specs.declared.reading.Reading.the-variants as reading
+use Rattle.frame_reading.specs.declared.reading.Received.{Received}
+
+-- the safety CRC at the end is that of what stands before it
+unfoldable pub safeOk : List ℕ → Bool
+safeOk s = eqb (crcOf Safety (take (length s - 2) s)) (numberAt s (length s - 2) 2)
+
+-- a safe frame: its form (8), then its CRC (9)
+unfoldable pub safeRead : Bool → List ℕ → Frame → Read
+safeRead form s f = choose form (choose (safeOk s) (Valid f) Check) Form
+
+-- another one: its form alone
+unfoldable pub plainRead : Bool → Frame → Read
+plainRead form f = choose form (Valid f) Form
+
+-- table 4; a sync has address FFh
+unfoldable pub readSync : ℕ → List ℕ → Read
+readSync a s = safeRead (eqb (length s) 7 && eqb a 0xFF) s (Sync (numberAt s 1 3) (numberAt s 4 1))
+
+-- table 5: COM 88h reads and has no data, 77h writes DATL bytes
+unfoldable pub safeReadRequest : List ℕ → Read
+safeReadRequest s =
+    safeRead (eqb (length s) 14) s
+    (SafeRead (numberAt s 1 3) (numberAt s 4 3) (numberAt s 7 1) (numberAt s 8 1) (numberAt s 10 1) (numberAt s 11 1))
+
+unfoldable pub safeWriteRequest : List ℕ → Read
+safeWriteRequest s =
+    safeRead (eqb (length s) (14 + numberAt s 10 1)) s
+    (SafeWrite (numberAt s 1 3) (numberAt s 4 3) (numberAt s 7 1) (numberAt s 8 1) (numberAt s 10 1) (numberAt s 11 1))
+
+unfoldable pub readSafeRequest : List ℕ → Read
+readSafeRequest s = choose (eqb (numberAt s 9 1) 0x88) (safeReadRequest s) (choose (eqb (numberAt s 9 1) 0x77) (safeWriteRequest s) Form)
+
+-- table 6: COM 02h reads, 01h writes
+unfoldable pub readPlainRequest : List ℕ → Read
+readPlainRequest s =
+    choose (eqb (numberAt s 2 1) 0x02)
+    (plainRead (eqb (length s) 5) (PlainRead (numberAt s 1 1) (numberAt s 3 1) (numberAt s 4 1)))
+    (choose (eqb (numberAt s 2 1) 0x01)
+    (plainRead (eqb (length s) (5 + numberAt s 3 1)) (PlainWrite (numberAt s 1 1) (numberAt s 3 1) (numberAt s 4 1)))
+    Form)
+
+-- table 7: COM 07h and 70h with at most 254 data bytes, AAh and 55h (errors) with none
+unfoldable pub safeCom : ℕ → ℕ → Bool
+safeCom «com» datl = choose (eqb «com» 0x07 || eqb «com» 0x70) (ltb datl 255) (choose (eqb «com» 0xAA || eqb «com» 0x55) (eqb datl 0) false)
+
+unfoldable pub readSafeResponse : List ℕ → Read
+readSafeResponse s =
+    safeRead (safeCom (numberAt s 9 1) (numberAt s 10 1) && eqb (length s) (15 + numberAt s 10 1)) s
+    (SafeResponse (numberAt s 1 3) (numberAt s 4 3) (numberAt s 7 1) (numberAt s 8 1) (numberAt s 9 1) (numberAt s 10 1) (numberAt s 11 1) (numberAt s (12 + numberAt s 10 1) 1))
+
+-- table 8: COM 01h has a status byte at 5 + DATL; 02h has none; AAh and 55h (errors) have no data
+unfoldable pub plainCom : ℕ → ℕ → Bool
+plainCom «com» datl = choose (eqb «com» 0x02) true (choose (eqb «com» 0xAA || eqb «com» 0x55) (eqb datl 0) false)
+
+unfoldable pub readPlainResponse : List ℕ → Read
+readPlainResponse s =
+    choose (eqb (numberAt s 2 1) 0x01)
+    (plainRead (eqb (length s) (6 + numberAt s 3 1)) (PlainSyncResponse (numberAt s 1 1) (numberAt s 3 1) (numberAt s 4 1) (numberAt s (5 + numberAt s 3 1) 1)))
+    (plainRead (plainCom (numberAt s 2 1) (numberAt s 3 1) && eqb (length s) (5 + numberAt s 3 1)) (PlainResponse (numberAt s 1 1) (numberAt s 2 1) (numberAt s 3 1) (numberAt s 4 1)))
+
+-- table 9
+unfoldable pub readTidAssignment : List ℕ → Read
+readTidAssignment s = plainRead (eqb (length s) 11) (TidAssignment (numberAt s 1 1) (numberAt s 2 8) (numberAt s 10 1))
+
+-- table 10, and the SIL4 form, told by its length
+unfoldable pub sil2Assignment : List ℕ → Read
+sil2Assignment s =
+    safeRead (eqb (length s) 21) s (SidAssignment (numberAt s 1 3) (numberAt s 4 4) (numberAt s 8 8) (numberAt s 16 3))
+
+unfoldable pub sil4Assignment : List ℕ → Read
+sil4Assignment s =
+    safeRead (eqb (length s) 27) s
+    (SidAssignment4 (numberAt s 1 3) (numberAt s 4 4) (numberAt s 8 8) (numberAt s 16 3) (numberAt s 19 3) (numberAt s 22 3))
+
+unfoldable pub readSidAssignment : List ℕ → Read
+readSidAssignment s = choose (eqb (length s) 27) (sil4Assignment s) (sil2Assignment s)
+
+-- table 11
+unfoldable pub readAcknowledgement : List ℕ → Read
+readAcknowledgement s = safeRead (eqb (length s) 21) s (Acknowledgement (numberAt s 1 3) (numberAt s 4 3) (numberAt s 7 4) (numberAt s 11 8))
+
+-- table 12
+unfoldable pub readInvariants : List ℕ → Read
+readInvariants s = safeRead (eqb (length s) 15) s (Invariants (numberAt s 1 3) (numberAt s 4 3) (numberAt s 7 1) (numberAt s 8 1) (numberAt s 9 2) (numberAt s 11 2))
+
+-- table 3: the TYP byte decides; 7 for a TYP that is not built
+unfoldable pub readTyp : ℕ → ℕ → List ℕ → Read
+readTyp typ a s =
+    choose (eqb typ 0x00) (readSync a s)
+    (choose (eqb typ 0x07) (readSafeRequest s)
+    (choose (eqb typ 0x08) (readPlainRequest s)
+    (choose (eqb typ 0x33) (readAcknowledgement s)
+    (choose (eqb typ 0x3C) (readTidAssignment s)
+    (choose (eqb typ 0x70) (readSafeResponse s)
+    (choose (eqb typ 0x80) (readPlainResponse s)
+    (choose (eqb typ 0xB4) (readInvariants s)
+    (choose (eqb typ 0xC3) (readSidAssignment s)
+    Kind))))))))
+
+-- application data that came for an address
+unfoldable pub readApp : ℕ → List ℕ → Read
+readApp a s = readTyp (numberAt s 0 1) a s
+
+-- document 01's number of each answer to application data and, beside 0, the frame
+abbrev pub readAnswer : Read → Answer Frame
+readAnswer (Valid f) = (0, some f)
+readAnswer Kind = (7, none)
+readAnswer Form = (8, none)
+readAnswer Check = (9, none)
+
+-- the number alone
+abbrev pub readNumber : Read → ℕ
+readNumber r = readAnswer r .0
+
+-- the answer to application data that came for an address
+abbrev pub answerToApp : ℕ → List ℕ → Answer Frame
+answerToApp a s = readAnswer (readApp a s)
+
+-- document 01's number of each answer to a body and, beside 0, the address, the frame and its data bytes, of application data s
+abbrev pub readingAnswer : Reading → List ℕ → Answer (ℕ × Frame × List ℕ)
+readingAnswer (reading.Valid a f) s = (0, some (a, f, dataIn f s))
+readingAnswer reading.Length s = (1, none)
+readingAnswer reading.Stuffing s = (2, none)
+readingAnswer reading.Size s = (3, none)
+readingAnswer reading.Fcs s = (4, none)
+readingAnswer reading.Reserved s = (5, none)
+readingAnswer reading.Kind s = (7, none)
+readingAnswer reading.Form s = (8, none)
+readingAnswer reading.Check s = (9, none)
+
+-- the number alone
+abbrev pub readingNumber : Reading → ℕ
+readingNumber r = readingAnswer r [] .0
+
+-- the answer that the reader of frames holds
+abbrev pub receivedAnswer : Received → Answer (ℕ × Frame × List ℕ)
+receivedAnswer r = readingAnswer (r .reading) (take (r .len) (r .bytes))
+
+-- what a body is answered: a frame is read with its application data, a refusal holds nothing
+abbrev pub refusedFrame : Reading → Received
+refusedFrame r = record { reading = r; bytes = replicate 272 0; len = 0 }
+
+abbrev pub receivedApp : Read → Body → Received
+receivedApp (Valid f) b = record { reading = reading.Valid (b .addr) f; bytes = b .bytes; len = b .len }
+receivedApp Kind b = refusedFrame reading.Kind
+receivedApp Form b = refusedFrame reading.Form
+receivedApp Check b = refusedFrame reading.Check
+
+abbrev pub byVerdict : Verdict → Body → Received
+byVerdict verdict.Valid b = receivedApp (readApp (b .addr) (take (b .len) (b .bytes))) b
+byVerdict verdict.Length b = refusedFrame reading.Length
+byVerdict verdict.Stuffing b = refusedFrame reading.Stuffing
+byVerdict verdict.Size b = refusedFrame reading.Size
+byVerdict verdict.Check b = refusedFrame reading.Fcs
+byVerdict verdict.Reserved b = refusedFrame reading.Reserved
+
+unfoldable pub receivedBody : Body → Received
+receivedBody b = byVerdict (b .verdict) b
+
+-- the reader of frames
+unfoldable pub readFrame : List ℕ → Received
+readFrame s = receivedBody (readBody s)
+
+-- the answer to a body: a refusal of the body, then one of its application data, else the frame
+abbrev pub answerToFrame : List ℕ → Answer (ℕ × Frame × List ℕ)
+answerToFrame s =
+    andThen (answerToBody s)
+    (λ b. andThen (answerToApp (b .0) (b .1)) (λ f. (0, some (b .0, f, dataIn f (b .1)))))

@@ -1,0 +1,11 @@
+pub mod Fits
+pub mod Sealing
+pub mod Standing
+pub mod StandsValid
+pub mod ValidStands
+pub mod BothWays
+pub mod Sizes
+pub mod Sending
+pub mod LineBothWays
+pub mod Runs
+pub mod WritingLaws

@@ -1,0 +1,49 @@
+// Fields put down, one behind the other, each a number of so many bytes, high byte first.
+ghost use mathlib.Core.Path.{_≡_};
+ghost use Prim.Native.Nat.{_+_, _≤_};
+ghost use lib.ListN.{length};
+ghost use lib.Seq.{sets};
+ghost use Rattle.base.specs.Bytes.{bytesOf};
+ghost use Rattle.fields.specs.Fields.{laid};
+ghost use Rattle.frame_kinds.specs.Holding.{fieldsIn};
+use frame_kinds::kinds::Fields;
+use frame_kinds::number::store_number;
+
+// A number from a place on, where there is room; the next place.
+pub fn put_number(dst: &mut [u8], at: usize, width: usize, n: u64) -> usize
+    requires { ⌜ at + width ≤ length (now dst) ⌝ }
+    ensures { λ r. ⌜ (r ≡ at + width) × (now (dst .exit) ≡ sets (now (dst .entry)) at (bytesOf width n)) ⌝ }
+{
+    store_number(dst, at, width, n);
+    at + width
+}
+
+// Fields from a place on; the next place.
+pub fn put_fields(dst: &mut [u8], at: usize, f: Fields) -> usize
+    requires { ⌜ (f .count ≤ 8) × (at + length (laid (fieldsIn f)) ≤ length (now dst)) ⌝ }
+    ensures { λ r. ⌜ (r ≡ at + length (laid (fieldsIn f))) × (now (dst .exit) ≡ sets (now (dst .entry)) at (laid (fieldsIn f))) ⌝ }
+{
+    let widths = f.widths;
+    let values = f.values;
+    let count = f.count;
+    let mut to = at;
+    let mut i: usize = 0;
+    while i < count {
+        to = put_number(dst, to, widths[i] as usize, values[i]);
+        i += 1;
+    }
+    to
+}
+
+// Bytes copied from a place on; the next place.
+pub fn copy_at(src: &[u8], dst: &mut [u8], from: usize) -> usize
+    requires { ⌜ from + length (now src) ≤ length (now dst) ⌝ }
+    ensures { λ r. ⌜ (r ≡ from + length (now (src .entry))) × (now (dst .exit) ≡ sets (now (dst .entry)) from (now (src .entry))) ⌝ }
+{
+    let mut i: usize = 0;
+    while i < src.len() {
+        dst[from + i] = src[i];
+        i += 1;
+    }
+    from + i
+}
