@@ -1,9 +1,18 @@
-// Definitions and laws on lists, bytes and tests that more than one crate cites: see specs/ and proofs/.
+// What more than one crate needs: definitions and laws on lists, bytes and tests (specs/ and proofs/), and the copy of bytes.
 ghost use mathlib.Core.Path.{_≡_};
+ghost use Prim.Native.Nat.{_+_, _≤_};
+ghost use lib.ListN.{length};
+ghost use lib.Seq.{sets};
 
-// The same byte. A crate has at least one function.
-pub fn same(x: u8) -> u8
-    ensures { λ r. ⌜ r ≡ x ⌝ }
+// Bytes copied to a place of a buffer; the place after them.
+pub fn copy_at(src: &[u8], dst: &mut [u8], from: usize) -> usize
+    requires { ⌜ from + length (now src) ≤ length (now dst) ⌝ }
+    ensures { λ r. ⌜ (r ≡ from + length (now (src .entry))) × (now (dst .exit) ≡ sets (now (dst .entry)) from (now (src .entry))) ⌝ }
 {
-    x
+    let mut i: usize = 0;
+    while i < src.len() {
+        dst[from + i] = src[i];
+        i += 1;
+    }
+    from + i
 }

@@ -13,7 +13,7 @@ use Rattle.console.specs.Lines.{linesOf, Free, joined}
 use Rattle.console.specs.Programs.{Program, nextAll, saysAll, answers, transcript}
 use Rattle.console.specs.Cursors.{began, answered, told}
 use Rattle.console.specs.Handing.{Handed}
-use Rattle.console.specs.Reading.{block, rest, last, Holds, some, between, Goes, Next}
+use Rattle.console.specs.Reading.{block, rest, last, some, between, Goes, Next}
 use Rattle.console.specs.Answering.{Stands, Answers, Spoken, Whole, Quiet}
 use Rattle.console.specs.declared.lines.Cursor.{Cursor}
 use Rattle.console.proofs.LinesLaws.{joined-append, lines-line, lines-last, lines-none}

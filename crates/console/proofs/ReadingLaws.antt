@@ -6,13 +6,13 @@ use Prim.Native.Nat.{ℕ, suc, _+_, _-_, _≤_, _<_}
 use native.Mathlib.Omega.{arith}
 use borrow.Author.Tests.{eq-eqb, ne-eqb, eqb-true, eqb-false, ltb-true, ltb-false}
 use lib.Dec.{eqb, ltb}
-use lib.ListN.{length, take, drop, length-append, length-drop, length-take, drop-of-length-le}
-use lib.Seq.{sets, drop-drop, length-take-le}
+use lib.ListN.{length, take, drop, length-drop, length-take, drop-of-length-le}
+use lib.Seq.{sets, drop-drop}
 use Rattle.text.specs.Lines.{beforeEnd, toldCount, lineEndOf}
 use Rattle.text.specs.declared.lines.LineEnd.{LineEnd}
 use Rattle.text.specs.declared.lines.LineEnd.the-variants.{Line, More}
 use Rattle.text.proofs.LineLaws.{end-other, end-lf}
-use Rattle.console.specs.Lines.{Free, joined}
+use Rattle.console.specs.Lines.{joined}
 use Rattle.console.specs.Cursors.{placed, filled, part, told}
 use Rattle.console.specs.Handing.{Handed}
 use Rattle.console.specs.Reading.{block, rest, last, Holds, some, between, Goes, Filled, Next}

@@ -34,16 +34,3 @@ pub fn put_fields(dst: &mut [u8], at: usize, f: Fields) -> usize
     }
     to
 }
-
-// Bytes copied from a place on; the next place.
-pub fn copy_at(src: &[u8], dst: &mut [u8], from: usize) -> usize
-    requires { ⌜ from + length (now src) ≤ length (now dst) ⌝ }
-    ensures { λ r. ⌜ (r ≡ from + length (now (src .entry))) × (now (dst .exit) ≡ sets (now (dst .entry)) from (now (src .entry))) ⌝ }
-{
-    let mut i: usize = 0;
-    while i < src.len() {
-        dst[from + i] = src[i];
-        i += 1;
-    }
-    from + i
-}

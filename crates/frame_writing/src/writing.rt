@@ -7,6 +7,7 @@ ghost use Rattle.wire.specs.Laying.{leftBy, laidAnswer};
 ghost use Rattle.frame_kinds.specs.Kinds.{appOf};
 ghost use Rattle.frame_writing.specs.Writing.{fieldsFit, fits, frameLine, writtenOf, answerToWriting};
 use crate::putting;
+use base::copy_at;
 use crc::Poly;
 use frame_kinds::kinds;
 use frame_kinds::kinds::Frame;
@@ -60,7 +61,7 @@ fn put_app(dst: &mut [u8], f: Frame, data: &[u8]) -> usize
     ensures { λ r. ⌜ (r ≡ length (appOf f (now («data» .entry)))) × (now (dst .exit) ≡ sets (now (dst .entry)) 0 (appOf f (now («data» .entry)))) ⌝ }
 {
     let a = putting::put_fields(dst, 0, kinds::head_of(f));
-    let b = putting::copy_at(data, dst, a);
+    let b = copy_at(data, dst, a);
     let n = putting::put_fields(dst, b, kinds::tail_of(f));
     if kinds::is_safe(f) {
         let crc = crc::crc_of(Poly::Safety, &dst[..n]);

@@ -4,20 +4,8 @@ ghost use Prim.Native.Nat.{_+_, _≤_};
 ghost use lib.ListN.{length};
 ghost use lib.Seq.{sets};
 ghost use Rattle.runs.specs.Log.{recordOf, recordSize};
+use base::copy_at;
 use rules::Agent;
-
-// Bytes copied from a place on; the next place.
-fn copy_at(src: &[u8], dst: &mut [u8], from: usize) -> usize
-    requires { ⌜ from + length (now src) ≤ length (now dst) ⌝ }
-    ensures { λ r. ⌜ (r ≡ from + length (now (src .entry))) × (now (dst .exit) ≡ sets (now (dst .entry)) from (now (src .entry))) ⌝ }
-{
-    let mut i: usize = 0;
-    while i < src.len() {
-        dst[from + i] = src[i];
-        i += 1;
-    }
-    from + i
-}
 
 // The bytes of a record.
 pub const RECORD: usize = 258;

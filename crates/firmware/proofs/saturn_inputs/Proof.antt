@@ -3,7 +3,7 @@
 -- That its elements are bytes, which a history asks for, is learnt from the borrow before the call (`SliceBytes`).
 -- All that is known of `inputs` is that it meets its contract. No field of the agent is looked at.
 -- Assumes nothing.
-use mathlib.Core.Path.{_≡_, refl}
+use mathlib.Core.Path.{refl}
 use Prim.Native.Nat.{ℕ, _<_, _^_}
 use mathlib.Core.List.{[], _∷_, List}
 use lib.ListN.{length}

@@ -1,5 +1,5 @@
 -- `lines::next_line` meets its contract. The invariant: the characters of the line so far, and the text handed on. Assumes nothing.
-use mathlib.Core.Path.{_≡_, ap}
+use mathlib.Core.Path.{ap}
 use borrow.Author.Needs.{needs}
 use Rattle.console.specs.Cursors.{told}
 use Rattle.console.specs.Handing.{Placed, Handed}

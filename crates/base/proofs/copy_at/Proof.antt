@@ -1,13 +1,13 @@
--- `putting::copy_at` meets its contract. The invariant: the rest, stored at the present place, gives the whole. Assumes nothing.
+-- `base::copy_at` meets its contract. The invariant: the rest, stored at the present place, gives the whole. Assumes nothing.
 use mathlib.Core.Path.{_≡_}
 use Prim.Native.Nat.{_+_, _-_, _≤_}
 use native.Mathlib.Nat.{add-zero}
 use lib.ListN.{length, drop, length-set}
 use lib.Seq.{sets}
 use borrow.Author.Needs.{needs}
 use Rattle.base.proofs.Stores.{copy-turn, copy-end}
-use Rattle.frame_writing.proofs.putting.copy_at.Statement.{statement}
-use Rattle.frame_writing.proofs.putting.copy_at.Tie as tie
+use Rattle.base.proofs.copy_at.Statement.{statement}
+use Rattle.base.proofs.copy_at.Tie as tie
 
 abbrev Inv-loop : tie.InvT-loop
 Inv-loop src dst₀ from i₀ dst i =
