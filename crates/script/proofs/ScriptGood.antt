@@ -26,8 +26,8 @@ use Rattle.rules.proofs.GoodNext.{good-next}
 use Rattle.rules.proofs.GoodStart.{good-start}
 use Rattle.rules.proofs.NeverUnsound.{never-unsound}
 use Rattle.console.specs.Programs.{nextAll}
-use Rattle.script.specs.Forms.{Step, ticks, frame, inputs, bad, longest, mostTicks, ticksOf, frameOf, inputsOf, formOf, lineOf}
-use Rattle.script.specs.Doing.{afterTicks, done}
+use Rattle.script_lines.specs.Forms.{Step, ticks, frame, inputs, bad, longest, mostTicks, ticksOf, frameOf, inputsOf, formOf, lineOf}
+use Rattle.script_lines.specs.Doing.{afterTicks, done}
 use Rattle.script.specs.Playing.{start, after, scripted}
 use Rattle.script.specs.declared.playing.Player.{Player}
 use Rattle.script.specs.declared.printing.View.{View}

@@ -1,4 +1,2 @@
-pub mod Forms
-pub mod Doing
 pub mod Printing
 pub mod Playing

@@ -3,8 +3,8 @@ use mathlib.Core.List.{List, []}
 use Prim.Native.Nat.{ℕ, _+_, _%_, _^_}
 use Rattle.console.specs.Programs.{Program}
 use Rattle.rules.specs.PowerUp.{powerUp}
-use Rattle.script.specs.Forms.{Step, isBad, lineOf}
-use Rattle.script.specs.Doing.{done}
+use Rattle.script_lines.specs.Forms.{Step, isBad, lineOf}
+use Rattle.script_lines.specs.Doing.{done}
 use Rattle.script.specs.Printing.{headerOf, printed}
 use Rattle.script.specs.declared.playing.Player.{Player}
 use Rattle.script.specs.declared.printing.View.{View}

@@ -1,6 +1,4 @@
-// Scripts: lines that drive a module from power-up, and what is printed for each.
-mod doing;
-mod forms;
+// Scripts played from power-up: what is printed for each line, and the loop over all of them.
 pub mod playing;
 mod printing;
 mod running;

@@ -3,7 +3,7 @@ ghost use mathlib.Core.Path.{_≡_};
 ghost use Prim.Native.Nat.{_+_, _≤_};
 ghost use lib.ListN.{length, take, replicate};
 ghost use Rattle.text.specs.Putting.{putAt, placeAfter};
-ghost use Rattle.script.specs.Doing.{told};
+ghost use Rattle.script_lines.specs.Doing.{told};
 ghost use Rattle.script.specs.Printing.{headerOf, badText, answerText, modeText, stateText, replyText, traceText, viewText, fieldsText, printed, Wrote};
 use agent_replies::sending::Handled;
 use rules::Agent;

@@ -4,7 +4,7 @@ use Prim.Native.Nat.{_≤_}
 use native.Mathlib.Omega.{arith}
 use lib.ListN.{length}
 use lib.Seq.{length-take-le}
-use Rattle.script.specs.Doing.{told}
+use Rattle.script_lines.specs.Doing.{told}
 use Rattle.script.specs.Printing.{printed}
 use Rattle.script.proofs.PrintingLaws.{same-put, printed-length, wrote-front}
 use borrow.Author.Needs.{needs}

@@ -3,7 +3,7 @@ use native.Mathlib.Omega.{arith}
 use mathlib.Core.Path.{_≡_}
 use lib.ListN.{length}
 use lib.Seq.{length-take-le}
-use Rattle.script.specs.Doing.{told}
+use Rattle.script_lines.specs.Doing.{told}
 use Rattle.script.proofs.PrintingLaws.{answer-room, state-room, fields-wrote}
 use borrow.Author.Needs.{needs}
 use Rattle.script.proofs.printing.put_fields.Statement.{statement}

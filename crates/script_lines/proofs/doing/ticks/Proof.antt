@@ -1,0 +1,42 @@
+-- `doing::ticks` meets its contract. The invariant: the ticks that are left, from here, give the whole. Assumes nothing.
+use mathlib.Core.Path.{_≡_, ap}
+use Prim.Native.Nat.{ℕ, _-_}
+use native.Mathlib.Omega.{arith}
+use Rattle.script_lines.specs.Doing.{afterTicks}
+use Rattle.script_lines.proofs.DoingLaws.{ticks-turn, ticks-end}
+use borrow.Author.Needs.{needs}
+use Rattle.script_lines.proofs.doing.ticks.Statement.{statement}
+use Rattle.script_lines.proofs.doing.ticks.Tie as tie
+
+abbrev Inv-loop : tie.InvT-loop
+Inv-loop n b₀ i₀ b i = afterTicks (n - i) b ≡ afterTicks n b₀
+
+abbrev μ-loop : tie.MeasureT-loop
+μ-loop n b₀ i₀ b i = n - i
+
+loop-holds : tie.Need-loop-holds Inv-loop μ-loop
+loop-holds c =
+    let e : c .args .n - 0 ≡ c .args .n = omega arith in
+    ap (λ (m : ℕ). afterTicks m (c .args .a)) e
+
+tick-requires : tie.Need-tick-requires Inv-loop μ-loop
+tick-requires c κs = search needs
+
+add-i : tie.Need-add-i Inv-loop μ-loop
+add-i c = search needs
+
+loop-less : tie.Need-loop-less Inv-loop μ-loop
+loop-less c = search needs
+
+loop-again : tie.Need-loop-again Inv-loop μ-loop
+loop-again c =
+    let l = c .before .before .before .loop in
+    ticks-turn _ _ (l .b) _ _ (search needs) (c .before .tick .ensures .1) (l .inv)
+
+returns : tie.Need-returns Inv-loop μ-loop
+returns c = ticks-end _ _ _ _ (search needs) (c .before .loop .inv)
+
+pub ticks-spec : {M : Type 1} → statement M
+ticks-spec =
+    tie.close
+    (tie.spec Inv-loop μ-loop loop-holds tick-requires add-i loop-less loop-again returns)

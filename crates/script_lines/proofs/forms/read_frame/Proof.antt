@@ -1,0 +1,44 @@
+-- `forms::read_frame` meets its contract. Assumes nothing.
+use mathlib.Core.Path.{sym, ap, _∙_}
+use lib.ListN.{length, drop}
+use Rattle.text.specs.Hex.{hexPairs}
+use Rattle.script_lines.specs.Forms.{frameOf}
+use Rattle.script_lines.proofs.FormLaws.{got-bytes, got-not, got-room}
+use borrow.Author.Needs.{needs}
+use Rattle.script_lines.proofs.forms.read_frame.Statement.{statement}
+use Rattle.script_lines.proofs.forms.read_frame.Tie as tie
+
+hex-bytes-requires : tie.Need-hex-bytes-requires
+hex-bytes-requires c κs = search needs
+
+enum-known-n : tie.Need-enum-known-n
+enum-known-n c = search needs
+
+enum-told : tie.Need-enum-told
+enum-told c = search needs
+
+enum-told-2 : tie.Need-enum-told-2
+enum-told-2 c = search needs
+
+returns : tie.Need-returns
+returns c =
+    let h = c .before .before .before .hex-bytes in
+    let a = c .before .before .before .before .before .before .args in
+    ap (frameOf (a .port)) (sym (got-bytes (hexPairs (drop 2 (a .text .now))) _ _ _ (sym (c .before .n .given .1) ∙ h .ensures .0) (h .ensures .1) .0))
+
+returns-2 : tie.Need-returns-2
+returns-2 c =
+    let h = c .before .before .hex-bytes in
+    let a = c .before .before .before .before .before .args in
+    ap (frameOf (a .port)) (sym (got-not (hexPairs (drop 2 (a .text .now))) _ (sym (c .enum-told .given .1) ∙ h .ensures .0)))
+
+returns-3 : tie.Need-returns-3
+returns-3 c =
+    let h = c .before .before .hex-bytes in
+    let s = c .before .before .before .before .before in
+    got-room (s .args .text .now) (length (s .args .bytes .now)) (s .pre) (search needs) (sym (c .enum-told2 .given .1) ∙ h .ensures .0)
+
+pub read-frame-spec : {M : Type 1} → statement M
+read-frame-spec =
+    tie.close
+    (tie.spec hex-bytes-requires enum-known-n enum-told enum-told-2 returns returns-2 returns-3)

@@ -1,0 +1,72 @@
+// What a line does to the module.
+ghost use mathlib.Core.Path.{_≡_};
+ghost use Prim.Native.Nat.{_≤_};
+ghost use lib.ListN.{take, replicate};
+ghost use Rattle.rules.specs.Calls.{inputCall, frameCall};
+ghost use Rattle.script_lines.specs.Forms.{stepIn};
+ghost use Rattle.script_lines.specs.Doing.{afterTicks, done, told};
+use crate::forms::Form;
+use crate::forms::IMAGE;
+use agent::calls;
+use agent_replies::sending::Handled;
+use agent_state::answers::ACCEPTED;
+use console::blocks::least;
+use rules::Agent;
+
+// A reply buffer of the least length that the frame call takes.
+pub fn no_reply() -> [u8; 545]
+    ensures { λ r. ⌜ r ≡ replicate 545 0 ⌝ }
+{
+    [0; 545]
+}
+
+fn ticks(a: Agent, n: u64) -> Agent
+    ensures { λ r. ⌜ r ≡ afterTicks n a ⌝ }
+{
+    let mut b = a;
+    let mut i: u64 = 0;
+    while i < n {
+        let next = calls::tick(b);
+        b = next.agent;
+        i += 1;
+    }
+    b
+}
+
+fn inputs(a: Agent, bytes: &[u8]) -> Agent
+    ensures { λ r. ⌜ r ≡ inputCall a (take 64 (now (bytes .entry))) .agent ⌝ }
+{
+    let n = least(bytes.len(), IMAGE);
+    let next = calls::inputs(a, &bytes[..n]);
+    next.agent
+}
+
+// What is accepted and sends nothing.
+fn accepted(a: Agent) -> Handled
+    ensures { λ r. ⌜ (r .answer ≡ 0) × (r .agent ≡ a) × (r .sent ≡ 0) ⌝ }
+{
+    Handled {
+        answer: ACCEPTED,
+        agent: a,
+        sent: 0,
+    }
+}
+
+fn frame(a: Agent, port: u8, bytes: &[u8], n: usize, reply: &mut [u8; 545]) -> Handled
+    ensures { λ r. ⌜ (r .sent ≤ 545) × (told r (now (reply .exit)) ≡ frameCall a port (take n (now (bytes .entry))) 545) ⌝ }
+{
+    let end = least(bytes.len(), n);
+    calls::frame(a, port, &bytes[..end], reply)
+}
+
+// A line's form with the bytes beside it; the reply stands in the buffer.
+pub fn do_form(a: Agent, form: Form, bytes: &[u8], reply: &mut [u8; 545]) -> Handled
+    ensures { λ r. ⌜ (r .sent ≤ 545) × (told r (now (reply .exit)) ≡ done a (stepIn form (now (bytes .entry)))) ⌝ }
+{
+    match form {
+        Form::Ticks(n) => accepted(ticks(a, n)),
+        Form::Frame(port, n) => frame(a, port, bytes, n, reply),
+        Form::Inputs => accepted(inputs(a, bytes)),
+        Form::Bad => accepted(a),
+    }
+}
