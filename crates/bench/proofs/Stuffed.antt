@@ -4,9 +4,9 @@ use mathlib.Core.List.{List, [], _∷_, _++_}
 use mathlib.Core.Option.{Option, none}
 use mathlib.Core.Path.{_≡_, refl, ap}
 use Prim.Native.Nat.{ℕ}
-use Rattle.wire.specs.Stuffing.{meaningOf, before, unstuffFrom, unstuff, prepend}
-use Rattle.wire.specs.declared.stuffing.Meaning.{Meaning}
-use Rattle.wire.specs.declared.stuffing.Meaning.the-variants.{Plain, Escape, Wrong}
+use Rattle.stuffing.specs.Stuffing.{meaningOf, before, unstuffFrom, unstuff, prepend}
+use Rattle.stuffing.specs.declared.Meaning.{Meaning}
+use Rattle.stuffing.specs.declared.Meaning.the-variants.{Plain, Escape, Wrong}
 
 -- none stays none behind any byte
 none-before : (m : Meaning) (rest : Bool → Option (List ℕ)) → ((e : Bool) → rest e ≡ none) → before m rest ≡ none

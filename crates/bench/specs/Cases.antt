@@ -7,7 +7,7 @@ use lib.ListN.{length, take, drop}
 use Rattle.crc.specs.Crc.{crcOf}
 use Rattle.crc.specs.declared.Poly.the-variants.{Fcs}
 use Rattle.wire.specs.Body.{readBody, verdictNumber}
-use Rattle.wire.specs.Stuffing.{stuff}
+use Rattle.stuffing.specs.Stuffing.{stuff}
 use Rattle.frame_writing.specs.Writing.{frameLine}
 use Rattle.frame_kinds.specs.declared.kinds.Frame.the-variants.{SafeResponse}
 use Rattle.rules.specs.Calls.{Call, act}

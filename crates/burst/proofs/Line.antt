@@ -9,11 +9,11 @@ use Rattle.base.specs.Bytes.{Bytes}
 use Rattle.base.proofs.Bytes.{bytes-cons, bytes-tail}
 use Rattle.crc.specs.Crc.{crcOf}
 use Rattle.crc.specs.declared.Poly.the-variants.{Fcs}
-use Rattle.wire.specs.Stuffing.{stuff, unstuff}
+use Rattle.stuffing.specs.Stuffing.{stuff, unstuff}
 use Rattle.wire.specs.Body.{fcsOf, readBody}
 use Rattle.wire.specs.Laying.{bodyWith}
 use Rattle.wire.specs.declared.body.Verdict.the-variants.{Valid}
-use Rattle.wire.proofs.StuffingBothWays.{unstuff-stuff}
+use Rattle.stuffing.proofs.StuffingBothWays.{unstuff-stuff}
 use Rattle.wire.proofs.LineBytes.{stuffed-bytes}
 use Rattle.wire.proofs.BodyBothWays.{read-then-laid}
 use Rattle.burst.specs.Promise.{Checked}

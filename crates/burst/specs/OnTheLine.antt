@@ -5,7 +5,7 @@ use mathlib.Core.List.{List, [], _∷_, _++_}
 use Prim.Native.Nat.{ℕ, _/_, _%_}
 use lib.ListN.{length}
 use Rattle.base.specs.Bytes.{Bytes}
-use Rattle.wire.specs.Stuffing.{stuff}
+use Rattle.stuffing.specs.Stuffing.{stuff}
 use Rattle.wire.specs.Body.{fcsOf, readBody}
 use Rattle.wire.specs.declared.body.Verdict.the-variants.{Valid}
 use Rattle.burst.specs.Damage.{Burst, flips}

@@ -13,9 +13,9 @@ use Rattle.crc.specs.Crc.{crcOf}
 use Rattle.crc.specs.declared.Poly.the-variants.{Safety}
 use Rattle.fields.specs.Fields.{laid}
 use Rattle.wire.specs.Laying.{bodyOf, bodyWith}
-use Rattle.wire.specs.Stuffing.{stuff, stuffByte}
+use Rattle.stuffing.specs.Stuffing.{stuff, stuffByte}
 use Rattle.wire.specs.Body.{fcsOf}
-use Rattle.wire.proofs.StuffingLaws.{stuff-least}
+use Rattle.stuffing.proofs.StuffingLaws.{stuff-least}
 use Rattle.frame_kinds.specs.Kinds.{headOf, tailOf, appOf, sealed}
 use Rattle.frame_kinds.specs.declared.kinds.Frame.the-variants.{SafeWrite}
 use Rattle.rules.specs.Answers.{accepted}

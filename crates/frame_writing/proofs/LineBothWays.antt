@@ -13,7 +13,7 @@ use lib.Seq.{take-append-seam}
 use Rattle.base.specs.Bytes.{Bytes}
 use Rattle.base.proofs.Bytes.{bytes-take, bytes-drop}
 use Rattle.base.proofs.Choosing.{and-parts}
-use Rattle.wire.specs.Stuffing.{stuff}
+use Rattle.stuffing.specs.Stuffing.{stuff}
 use Rattle.wire.specs.Body.{reservedAddr, fcsOf, readBody}
 use Rattle.wire.specs.Laying.{bodyWith, bodyOf}
 use Rattle.wire.specs.declared.body.Body.{Body}

@@ -16,14 +16,14 @@ use Rattle.base.proofs.Sets.{sets-front}
 use Rattle.base.proofs.ListEnds.{last-two}
 use Rattle.base.proofs.Bytes.{bytes-tail, bytes-behind}
 use Rattle.base.proofs.Ranges.{in-range}
-use Rattle.wire.specs.Stuffing.{stuff, unstuff, plainOf}
+use Rattle.stuffing.specs.Stuffing.{stuff, unstuff, plainOf}
 use Rattle.wire.specs.Body.{reservedAddr, fcsOf, verdictNumber, bodyAnswer, refusedBody, checkedBody, unstuffedBody, readBody, answerToBody}
 use Rattle.wire.specs.Laying.{bodyWith, bodyOf}
 use Rattle.wire.specs.declared.body.Verdict.{Verdict}
 use Rattle.wire.specs.declared.body.Verdict.the-variants.{Valid, Length, Stuffing, Size, Check, Reserved}
 use Rattle.wire.specs.declared.body.Body.{Body}
-use Rattle.wire.proofs.StuffingLaws.{stuff-least, stuff-most}
-use Rattle.wire.proofs.StuffingBothWays.{unstuff-stuff, stuff-unstuff}
+use Rattle.stuffing.proofs.StuffingLaws.{stuff-least, stuff-most}
+use Rattle.stuffing.proofs.StuffingBothWays.{unstuff-stuff, stuff-unstuff}
 use Rattle.wire.proofs.BodyLaws.{unstuffed-wrong, unstuffed-short, unstuffed-long, unstuffed-fits, body-short, body-long, body-fits}
 use Rattle.wire.proofs.LineBytes.{unstuffed-bytes}
 

@@ -7,9 +7,9 @@ use borrow.Author.Tests.{eq-eqb, ne-eqb, lt-ltb, le-ltb}
 use lib.ListN.{length, take, drop, getD}
 use Rattle.crc.specs.Crc.{polyOf, crcFrom, crcOf, from-append}
 use Rattle.crc.specs.declared.Poly.the-variants.{Fcs}
-use Rattle.wire.specs.Stuffing.{unstuff, plainOf}
+use Rattle.stuffing.specs.Stuffing.{unstuff, plainOf}
 use Rattle.wire.specs.Body.{reservedAddr, fcsOf, refusedBody, checkedBody, unstuffedBody, readBody}
-use Rattle.wire.specs.declared.stuffing.Unstuffed.{Unstuffed}
+use Rattle.stuffing.specs.declared.Unstuffed.{Unstuffed}
 use Rattle.wire.specs.declared.body.Verdict.the-variants.{Valid, Length, Stuffing, Size, Check, Reserved}
 
 -- the FCS in two steps, the address first

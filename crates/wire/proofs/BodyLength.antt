@@ -6,10 +6,10 @@ use lib.Dec.{eqb, ltb}
 use lib.ListN.{length, take, drop, getD}
 use borrow.Author.Tests.{ltb-false}
 use Rattle.base.proofs.Choosing.{by-test}
-use Rattle.wire.specs.Stuffing.{unstuff, plainOf}
+use Rattle.stuffing.specs.Stuffing.{unstuff, plainOf}
 use Rattle.wire.specs.Body.{reservedAddr, fcsOf, checkedBody, unstuffedBody, readBody}
 use Rattle.wire.specs.declared.body.Body.{Body}
-use Rattle.wire.specs.declared.stuffing.Unstuffed.{Unstuffed}
+use Rattle.stuffing.specs.declared.Unstuffed.{Unstuffed}
 
 abbrev Short : Body → Type 0
 Short b = b .len ≤ 269

@@ -14,11 +14,11 @@ use lib.Seq.{sets, take-at}
 use Rattle.base.specs.Choice.{choose}
 use Rattle.base.proofs.Sets.{sets-append, sets-front}
 use Rattle.base.proofs.Part.{part-back}
-use Rattle.wire.specs.Stuffing.{stuff}
+use Rattle.stuffing.specs.Stuffing.{stuff}
 use Rattle.wire.specs.Body.{reservedAddr}
 use Rattle.wire.specs.Laying.{bodyWith, lineWith, lineOf, laidOf}
 use Rattle.wire.specs.declared.laying.Laid.the-variants.{Sent, Reserved, Form, Room}
-use Rattle.wire.proofs.StuffingLaws.{stuff-append, stuff-least, stuff-most}
+use Rattle.stuffing.proofs.StuffingLaws.{stuff-append, stuff-least, stuff-most}
 
 module _ (check a : ℕ) (xs : List ℕ) where
   -- ---- lengths

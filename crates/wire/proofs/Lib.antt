@@ -1,8 +1,6 @@
 pub mod AnswerLaws
-pub mod StuffingLaws
 pub mod BodyLaws
 pub mod LayingLaws
-pub mod StuffingBothWays
 pub mod LineBytes
 pub mod BodyBothWays
 pub mod BodyLength

@@ -10,10 +10,10 @@ use Rattle.base.proofs.Elements.{nil-each, cons-each, append-each}
 use Rattle.base.proofs.Bytes.{bytes-cons, bytes-single, bytes-pair, bytes-tail, bytes-append, bytes-behind}
 use Rattle.crc.specs.declared.Poly.the-variants.{Fcs}
 use Rattle.crc.proofs.Bound.{of-lt}
-use Rattle.wire.specs.Stuffing.{stuffByte, stuff}
+use Rattle.stuffing.specs.Stuffing.{stuffByte, stuff}
 use Rattle.wire.specs.Body.{reservedAddr, fcsOf}
 use Rattle.wire.specs.Laying.{bodyWith, lineWith, bodyOf, lineOf}
-use Rattle.wire.proofs.StuffingLaws.{byte-cases}
+use Rattle.stuffing.proofs.StuffingLaws.{byte-cases}
 
 -- ---- bytes
 pub fcs-lt : (a : ℕ) (xs : List ℕ) → fcsOf a xs < 2 ^ 16

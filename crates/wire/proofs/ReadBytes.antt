@@ -10,11 +10,11 @@ use Rattle.base.specs.Bytes.{Bytes}
 use Rattle.base.proofs.Bytes.{bytes-nil, bytes-cons, bytes-take, bytes-drop, bytes-replicate}
 use Rattle.base.proofs.Choosing.{by-test}
 use Rattle.base.proofs.Stored.{stored-bytes}
-use Rattle.wire.specs.Stuffing.{meaningOf, before, unstuffFrom, unstuff, plainOf}
+use Rattle.stuffing.specs.Stuffing.{meaningOf, before, unstuffFrom, unstuff, plainOf}
 use Rattle.wire.specs.Body.{fcsOf, reservedAddr, refusedBody, checkedBody, unstuffedBody, readBody}
-use Rattle.wire.specs.declared.stuffing.Meaning.{Meaning}
-use Rattle.wire.specs.declared.stuffing.Meaning.the-variants.{Plain, Escape, Wrong}
-use Rattle.wire.specs.declared.stuffing.Unstuffed.{Unstuffed}
+use Rattle.stuffing.specs.declared.Meaning.{Meaning}
+use Rattle.stuffing.specs.declared.Meaning.the-variants.{Plain, Escape, Wrong}
+use Rattle.stuffing.specs.declared.Unstuffed.{Unstuffed}
 use Rattle.wire.specs.declared.body.Verdict.{Verdict}
 use Rattle.wire.specs.declared.body.Verdict.the-variants.{Length, Stuffing, Size, Check, Reserved}
 use Rattle.wire.specs.declared.body.Body.{Body}

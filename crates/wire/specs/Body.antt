@@ -9,8 +9,8 @@ use Rattle.base.specs.Choice.{choose, within}
 use Rattle.crc.specs.Crc.{crcOf}
 use Rattle.crc.specs.declared.Poly.the-variants.{Fcs}
 use Rattle.wire.specs.Answer.{Answer}
-use Rattle.wire.specs.Stuffing.{unstuff, plainOf}
-use Rattle.wire.specs.declared.stuffing.Unstuffed.{Unstuffed}
+use Rattle.stuffing.specs.Stuffing.{unstuff, plainOf}
+use Rattle.stuffing.specs.declared.Unstuffed.{Unstuffed}
 use Rattle.wire.specs.declared.body.Verdict.{Verdict}
 use Rattle.wire.specs.declared.body.Verdict.the-variants.{Valid, Length, Stuffing, Size, Check, Reserved}
 use Rattle.wire.specs.declared.body.Body.{Body}

@@ -6,7 +6,7 @@ use lib.Dec.{ltb}
 use lib.ListN.{length, drop}
 use Rattle.base.specs.Choice.{choose}
 use Rattle.wire.specs.Answer.{Answer}
-use Rattle.wire.specs.Stuffing.{stuff}
+use Rattle.stuffing.specs.Stuffing.{stuff}
 use Rattle.wire.specs.Body.{reservedAddr, fcsOf}
 use Rattle.wire.specs.declared.laying.Laid.{Laid}
 use Rattle.wire.specs.declared.laying.Laid.the-variants.{Sent, Reserved, Form, Room}

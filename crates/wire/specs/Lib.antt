@@ -1,4 +1,3 @@
 pub mod Answer
-pub mod Stuffing
 pub mod Body
 pub mod Laying

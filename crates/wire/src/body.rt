@@ -2,9 +2,8 @@
 ghost use mathlib.Core.Path.{_≡_};
 ghost use Prim.Native.Nat.{_≤_};
 ghost use Rattle.wire.specs.Body.{verdictNumber, bodyAnswer, reservedAddr, fcsOf, refusedBody, checkedBody, unstuffedBody, readBody, answerToBody};
-use crate::stuffing;
-use crate::stuffing::Unstuffed;
 use crc::Poly;
+use stuffing::Unstuffed;
 
 // What a body is answered: it is valid, or numbers 1 to 5.
 pub enum Verdict {

@@ -6,8 +6,7 @@ ghost use lib.ListN.{length, drop};
 ghost use lib.Seq.{sets};
 ghost use Rattle.wire.specs.Laying.{bodyWith, lineWith, lineOf, laidOf, leftBy, laidAnswer, answerToLaying};
 use crate::body;
-use crate::stuffing;
-use crate::stuffing::FLAG;
+use stuffing::FLAG;
 
 // The body with a given FCS, from the buffer's first byte on; its length.
 fn lay_body(dst: &mut [u8], addr: u8, data: &[u8], check: u16) -> usize

@@ -5,7 +5,7 @@ use Prim.Native.Nat.{ℕ, _-_}
 use native.Mathlib.Nat.{le-of-eq}
 use lib.ListN.{length, drop, getD, length-drop}
 use lib.Seq.{take-all}
-use Rattle.wire.specs.Stuffing.{unstuff, plainOf}
+use Rattle.stuffing.specs.Stuffing.{unstuff, plainOf}
 use Rattle.wire.specs.Body.{bodyAnswer, unstuffedBody}
 use Rattle.wire.proofs.AnswerLaws.{with-answer}
 use Rattle.wire.proofs.BodyLaws.{body-short, body-long, body-fits}

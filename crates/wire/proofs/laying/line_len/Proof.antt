@@ -2,7 +2,7 @@
 use mathlib.Core.List.{[], _∷_}
 use Prim.Native.Nat.{_/_, _%_}
 use native.Mathlib.Omega.{arith}
-use Rattle.wire.proofs.StuffingLaws.{stuff-most}
+use Rattle.stuffing.proofs.StuffingLaws.{stuff-most}
 use Rattle.wire.proofs.LayingLaws.{line-length, body-length}
 use borrow.Author.Needs.{needs}
 use Rattle.wire.proofs.laying.line_len.Statement.{statement}

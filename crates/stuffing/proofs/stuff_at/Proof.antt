@@ -5,10 +5,10 @@ use native.Mathlib.Omega.{arith}
 use lib.ListN.{length, drop}
 use lib.Seq.{sets}
 use borrow.Author.Needs.{needs}
-use Rattle.wire.specs.Stuffing.{stuff}
-use Rattle.wire.proofs.StuffingLaws.{stuff-end, turn-place, turn-contents}
-use Rattle.wire.proofs.stuffing.stuff_at.Statement.{statement}
-use Rattle.wire.proofs.stuffing.stuff_at.Tie as tie
+use Rattle.stuffing.specs.Stuffing.{stuff}
+use Rattle.stuffing.proofs.StuffingLaws.{stuff-end, turn-place, turn-contents}
+use Rattle.stuffing.proofs.stuff_at.Statement.{statement}
+use Rattle.stuffing.proofs.stuff_at.Tie as tie
 
 abbrev Inv-loop : tie.InvT-loop
 Inv-loop src dst₀ from at₀ i₀ dst at i =

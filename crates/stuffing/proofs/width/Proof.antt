@@ -1,9 +1,9 @@
 -- `stuffing::width` meets its contract. Assumes nothing.
 use mathlib.Core.Path.{sym, ap}
 use lib.ListN.{length}
-use Rattle.wire.proofs.StuffingLaws.{byte-flag, byte-escape, byte-other}
-use Rattle.wire.proofs.stuffing.width.Statement.{statement}
-use Rattle.wire.proofs.stuffing.width.Tie as tie
+use Rattle.stuffing.proofs.StuffingLaws.{byte-flag, byte-escape, byte-other}
+use Rattle.stuffing.proofs.width.Statement.{statement}
+use Rattle.stuffing.proofs.width.Tie as tie
 
 returns : tie.Need-returns
 returns c = sym (ap length (byte-flag _ (c .if1 .taken)))

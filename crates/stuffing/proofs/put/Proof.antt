@@ -3,10 +3,10 @@ use mathlib.Core.Path.{refl, ap}
 use native.Mathlib.Omega.{arith}
 use native.Mathlib.Numerals.{add-one}
 use lib.ListN.{length, length-set}
-use Rattle.wire.proofs.StuffingLaws.{byte-flag, byte-escape, byte-other}
+use Rattle.stuffing.proofs.StuffingLaws.{byte-flag, byte-escape, byte-other}
 use borrow.Author.Needs.{needs}
-use Rattle.wire.proofs.stuffing.put.Statement.{statement}
-use Rattle.wire.proofs.stuffing.put.Tie as tie
+use Rattle.stuffing.proofs.put.Statement.{statement}
+use Rattle.stuffing.proofs.put.Tie as tie
 
 slice-write-dst : tie.Need-slice-write-dst
 slice-write-dst c = omega (arith, ap length (byte-flag _ (c .if1 .taken)))

@@ -4,7 +4,7 @@ ghost use mathlib.Core.Option.{none};
 ghost use Prim.Native.Nat.{_+_, _≤_};
 ghost use lib.ListN.{length};
 ghost use lib.Seq.{sets};
-ghost use Rattle.wire.specs.Stuffing.{stuffByte, stuff, meaningOf, unstuff, plainOf};
+ghost use Rattle.stuffing.specs.Stuffing.{stuffByte, stuff, meaningOf, unstuff, plainOf};
 
 pub const FLAG: u8 = 0x7E;
 

@@ -6,10 +6,10 @@ use native.Mathlib.Omega.{arith}
 use lib.ListN.{length, drop, length-set}
 use lib.Seq.{set-out}
 use borrow.Author.Needs.{needs}
-use Rattle.wire.specs.Stuffing.{unstuff, unstuffFrom, plainOf}
-use Rattle.wire.proofs.StuffingLaws.{extend, extend-start, extend-end, unstuff-end, turn-plain, turn-escape, turn-wrong}
-use Rattle.wire.proofs.stuffing.unstuff_all.Statement.{statement}
-use Rattle.wire.proofs.stuffing.unstuff_all.Tie as tie
+use Rattle.stuffing.specs.Stuffing.{unstuff, unstuffFrom, plainOf}
+use Rattle.stuffing.proofs.StuffingLaws.{extend, extend-start, extend-end, unstuff-end, turn-plain, turn-escape, turn-wrong}
+use Rattle.stuffing.proofs.unstuff_all.Statement.{statement}
+use Rattle.stuffing.proofs.unstuff_all.Tie as tie
 
 abbrev Inv-loop : tie.InvT-loop
 Inv-loop s bytes₀ len₀ escaped₀ i₀ bytes len escaped i =

@@ -8,8 +8,8 @@ use Prim.Native.Nat.{ℕ}
 use native.Mathlib.Omega.{arith}
 use borrow.Author.Tests.{eqb-true, eqb-false}
 use lib.Dec.{eqb}
-use Rattle.wire.specs.Stuffing.{stuffByte, stuff, meaningOf, prepend, unstuffFrom, unstuff}
-use Rattle.wire.proofs.StuffingLaws.{byte-flag, byte-escape, byte-other}
+use Rattle.stuffing.specs.Stuffing.{stuffByte, stuff, meaningOf, prepend, unstuffFrom, unstuff}
+use Rattle.stuffing.proofs.StuffingLaws.{byte-flag, byte-escape, byte-other}
 
 -- ---- stuffed, then unstuffed
 byte : (b : ℕ) (r : List ℕ) (t u : Bool) → eqb b 0x7E ≡ t → eqb b 0x7D ≡ u → unstuffFrom (stuffByte b ++ r) false ≡ prepend b (unstuffFrom r false)

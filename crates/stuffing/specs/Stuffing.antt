@@ -7,9 +7,9 @@ use lib.Dec.{eqb}
 use lib.ListN.{length, replicate}
 use lib.Seq.{sets}
 use Rattle.base.specs.Choice.{choose}
-use Rattle.wire.specs.declared.stuffing.Meaning.{Meaning}
-use Rattle.wire.specs.declared.stuffing.Meaning.the-variants.{Plain, Escape, Wrong}
-use Rattle.wire.specs.declared.stuffing.Unstuffed.{Unstuffed}
+use Rattle.stuffing.specs.declared.Meaning.{Meaning}
+use Rattle.stuffing.specs.declared.Meaning.the-variants.{Plain, Escape, Wrong}
+use Rattle.stuffing.specs.declared.Unstuffed.{Unstuffed}
 
 -- 7Eh is sent as 7Dh 5Eh, 7Dh as 7Dh 5Dh
 unfoldable pub stuffByte : ℕ → List ℕ

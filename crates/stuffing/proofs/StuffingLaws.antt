@@ -12,10 +12,10 @@ use lib.Dec.{eqb}
 use lib.ListN.{length, replicate, drop, getD, set, length-append, drop-of-length-le}
 use lib.Seq.{sets, drop-cons}
 use Rattle.base.proofs.Sets.{sets-append}
-use Rattle.wire.specs.Stuffing.{stuffByte, stuff, meaningOf, prepend, before, atEnd, unstuffFrom, plainOf}
-use Rattle.wire.specs.declared.stuffing.Unstuffed.{Unstuffed}
-use Rattle.wire.specs.declared.stuffing.Meaning.{Meaning}
-use Rattle.wire.specs.declared.stuffing.Meaning.the-variants.{Plain, Escape, Wrong}
+use Rattle.stuffing.specs.Stuffing.{stuffByte, stuff, meaningOf, prepend, before, atEnd, unstuffFrom, plainOf}
+use Rattle.stuffing.specs.declared.Unstuffed.{Unstuffed}
+use Rattle.stuffing.specs.declared.Meaning.{Meaning}
+use Rattle.stuffing.specs.declared.Meaning.the-variants.{Plain, Escape, Wrong}
 
 -- the three cases of a byte
 pub byte-flag : (b : ℕ) → b ≡ 0x7E → stuffByte b ≡ 0x7D ∷ 0x5E ∷ []

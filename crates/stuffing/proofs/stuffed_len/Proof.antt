@@ -4,10 +4,10 @@ use Prim.Native.Nat.{_+_, _*_, _-_, _≤_}
 use native.Mathlib.Omega.{arith}
 use lib.ListN.{length, drop, getD}
 use borrow.Author.Needs.{needs}
-use Rattle.wire.specs.Stuffing.{stuff}
-use Rattle.wire.proofs.StuffingLaws.{byte-most, turn-place, stuff-end}
-use Rattle.wire.proofs.stuffing.stuffed_len.Statement.{statement}
-use Rattle.wire.proofs.stuffing.stuffed_len.Tie as tie
+use Rattle.stuffing.specs.Stuffing.{stuff}
+use Rattle.stuffing.proofs.StuffingLaws.{byte-most, turn-place, stuff-end}
+use Rattle.stuffing.proofs.stuffed_len.Statement.{statement}
+use Rattle.stuffing.proofs.stuffed_len.Tie as tie
 
 abbrev Inv-loop : tie.InvT-loop
 Inv-loop src n₀ i₀ n i = (i ≤ length src) × (n ≤ i * 2) × (n + length (stuff (drop i src)) ≡ length (stuff src))

@@ -1,8 +1,8 @@
 -- `stuffing::meaning_of` meets its contract: at each return the tests that led there pick the case. Assumes nothing.
 use borrow.Author.Tests.{eq-eqb, ne-eqb}
-use Rattle.wire.specs.Stuffing.{meaningOf}
-use Rattle.wire.proofs.stuffing.meaning_of.Statement.{statement}
-use Rattle.wire.proofs.stuffing.meaning_of.Tie as tie
+use Rattle.stuffing.specs.Stuffing.{meaningOf}
+use Rattle.stuffing.proofs.meaning_of.Statement.{statement}
+use Rattle.stuffing.proofs.meaning_of.Tie as tie
 
 returns : tie.Need-returns
 unfolding meaningOf
