@@ -4,7 +4,8 @@
 //! - `peer cases crc|body|frame SEED COUNT`: seeded cases
 //! - `peer script`, `peer trace`: a script on standard input, what came of it on standard output
 //! - `peer scripts SEED COUNT`: a seeded script of so many lines
-//! - `peer frame`: frames by their fields and bodies on standard input, bodies and frames on standard output
+//! - `peer frame`: a list on standard input (frames by their fields, bodies, lines of a script, comments); bodies, frames
+//!   and the lines of the script on standard output
 //! - `peer frames SEED COUNT`: seeded lines for it
 //! - `peer census`: a script on standard input, how often what came up on standard output
 //! - `peer fuzz COUNT SEED PROGRAM...`: fresh scripts through `trace` and another trace program
