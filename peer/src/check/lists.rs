@@ -2,6 +2,8 @@
 
 use super::spelling::{check_lines, output};
 use super::Tally;
+use crate::census::{self, ListCensus};
+use crate::generate;
 
 /// Lines and what they print, one behind the other in one input.
 const LINES: [(&str, &str); 48] = [
@@ -81,12 +83,104 @@ const FLAGS: [(&str, &str); 10] = [
     ("body 7E7E7E7E7E7E7E7E7E", "refused 2: stuffing"),
 ];
 
+/// So many lines are stored, made from this seed.
+const STORED: (u64, usize) = (13, 5000);
+
+/// How often the lines of each sort come at least.
+const SORTS: [(&str, usize); 29] = [
+    ("comment", 60),
+    ("empty line", 20),
+    ("line of inputs", 50),
+    ("line of ticks", 80),
+    ("line over 1,200 characters", 60),
+    ("no port: body", 400),
+    ("no port: body refused 1", 30),
+    ("no port: body refused 2", 150),
+    ("no port: body refused 3", 30),
+    ("no port: body refused 4", 100),
+    ("no port: body refused 5", 50),
+    ("no port: body refused 7", 150),
+    ("no port: body refused 8", 200),
+    ("no port: body refused 9", 100),
+    ("no port: body that is BAD", 50),
+    ("no port: frame", 600),
+    ("no port: frame refused 5", 50),
+    ("no port: frame refused 8", 80),
+    ("no port: frame that is BAD", 800),
+    ("no port: no kind", 100),
+    ("port before body", 60),
+    ("port before body refused 2", 40),
+    ("port before body refused 4", 10),
+    ("port before body refused 8", 10),
+    ("port before frame", 150),
+    ("port before frame refused 5", 15),
+    ("port before frame refused 8", 10),
+    ("port before frame that is BAD", 200),
+    ("port before no kind", 100),
+];
+
+/// And what stands at an edge.
+const EDGES: [(&str, usize); 27] = [
+    ("# alone", 20),
+    ("space before #", 20),
+    ("T or I alone", 30),
+    ("T or I and a space", 30),
+    ("T or I and no space", 30),
+    ("t or i", 20),
+    ("digit alone", 10),
+    ("digit and a space", 10),
+    ("digit and two spaces", 20),
+    ("digit and no space", 20),
+    ("odd count of digits behind a port", 20),
+    ("small letters behind a port", 30),
+    ("comment over 1,200 characters", 10),
+    ("comment of 1199 characters", 3),
+    ("comment of 1200 characters", 3),
+    ("comment of 1201 characters", 3),
+    ("ticks or inputs of 1199 characters", 5),
+    ("ticks or inputs of 1200 characters", 5),
+    ("ticks or inputs of 1201 characters", 5),
+    ("port and digits of 1199 characters", 4),
+    ("port and digits of 1200 characters", 4),
+    ("port and digits of 1201 characters", 4),
+    ("body with both flags", 80),
+    ("body with an opening flag only", 40),
+    ("body with a closing flag only", 40),
+    ("body with flags and one inside", 80),
+    ("body of flags only", 10),
+];
+
 pub fn run(tally: &mut Tally) {
+    generated(tally);
     check_lines(tally, &LINES);
     check_lines(tally, &FLAGS);
     silent(tally);
     long_lines(tally);
     flags_at_the_limit(tally);
+}
+
+/// What the stored list brings up.
+fn generated(tally: &mut Tally) {
+    let (seed, count) = STORED;
+    let census = census::of_list(&generate::frame_lines(seed, count));
+    for (sort, wanted) in SORTS {
+        often(tally, &census, sort, wanted);
+    }
+    for (edge, wanted) in EDGES {
+        often(tally, &census, &format!("edge: {edge}"), wanted);
+    }
+    for port in 0..10 {
+        let own = format!("script's own line on port {port}");
+        often(tally, &census, &own, 6);
+    }
+    let unported = SORTS.iter().filter(|(sort, _)| sort.starts_with("no port"));
+    let old: usize = unported.map(|(sort, _)| census.count(sort)).sum();
+    tally.check(10 * old > 7 * count, "most lines of a list have no port");
+}
+
+fn often(tally: &mut Tally, census: &ListCensus, what: &str, wanted: usize) {
+    let count = census.count(what);
+    tally.check(count >= wanted, &format!("{what}: {count} of {wanted}"));
 }
 
 /// Only an empty input prints the grammar.

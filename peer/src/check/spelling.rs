@@ -102,7 +102,10 @@ fn lines(tally: &mut Tally) {
 pub fn check_lines(tally: &mut Tally, lines: &[(&str, &str)]) {
     let input: Vec<&str> = lines.iter().map(|(line, _)| *line).collect();
     let given = output(&(input.join("\n") + "\n"));
-    let printing: Vec<_> = lines.iter().filter(|(_, wanted)| *wanted != "").collect();
+    let printing: Vec<_> = lines
+        .iter()
+        .filter(|(_, wanted)| !wanted.is_empty())
+        .collect();
     // A CR at the end of a line belongs to it.
     let given: Vec<&str> = given.split_terminator('\n').collect();
     let as_many = given.len() == printing.len();
