@@ -98,13 +98,13 @@ impl Cost {
 /// The workloads for which the library takes more, with the ratio, and those for which it does not.
 fn compare(what: &str, rows: &[Row], cost: fn(&Row) -> &Cost) {
     let (more, less): (Vec<&Row>, Vec<&Row>) = rows.iter().partition(|row| cost(row).ratio() > 1.0);
-    for (than, rows) in [("more", more), ("not more", less)] {
+    for (than, rows) in [("more", more), ("no more", less)] {
         let ratios: Vec<String> = rows
             .iter()
-            .map(|row| format!("{} {:.2}", row.workload.name, cost(row).ratio()))
+            .map(|row| format!("{} {:.2} times", row.workload.name, cost(row).ratio()))
             .collect();
         if !ratios.is_empty() {
-            println!("{what}, library/second, {than}: {}", ratios.join(", "));
+            println!("the library takes {than} {what}: {}", ratios.join(", "));
         }
     }
 }
