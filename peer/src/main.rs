@@ -4,9 +4,11 @@
 //! - `peer cases crc|body|frame SEED COUNT`: seeded cases
 //! - `peer script`, `peer trace`: a script on standard input, what came of it on standard output
 //! - `peer scripts SEED COUNT`: a seeded script of so many lines
-//! - `peer frame`: frames by their fields and bodies on standard input, bodies and frames on standard output
+//! - `peer frame`: a list on standard input (frames by their fields, bodies, lines of a script, comments); bodies, frames
+//!   and the lines of the script on standard output
 //! - `peer frames SEED COUNT`: seeded lines for it
 //! - `peer census`: a script on standard input, how often what came up on standard output
+//! - `peer list-census`: the same for a list
 //! - `peer fuzz COUNT SEED PROGRAM...`: fresh scripts through `trace` and another trace program
 //! - `peer test`: self checks
 
@@ -23,6 +25,7 @@ const USAGE: &str = "usage: peer answer crc|body|frame
        peer frame
        peer frames SEED COUNT
        peer census
+       peer list-census
        peer fuzz COUNT SEED PROGRAM...
        peer test
 ";
@@ -38,7 +41,8 @@ fn main() -> ExitCode {
         ["scripts", seed, count] => scripts(seed, count),
         ["frame"] => Some(frame_lines()),
         ["frames", seed, count] => frames(seed, count),
-        ["census"] => Some(count()),
+        ["census"] => Some(count(|script| census::of(script).to_string())),
+        ["list-census"] => Some(count(|list| census::of_list(list).to_string())),
         ["fuzz", count, seed, ref command @ ..] if !command.is_empty() => {
             fuzzed(count, seed, command)
         }
@@ -103,10 +107,10 @@ fn play(program: script::Program) -> io::Result<ExitCode> {
     Ok(ExitCode::SUCCESS)
 }
 
-fn count() -> io::Result<ExitCode> {
-    let mut script = Vec::new();
-    io::stdin().read_to_end(&mut script)?;
-    print(census::of(&script).to_string())
+fn count(census: fn(&[u8]) -> String) -> io::Result<ExitCode> {
+    let mut input = Vec::new();
+    io::stdin().read_to_end(&mut input)?;
+    print(census(&input))
 }
 
 /// `None` for words that do not begin with two numbers.

@@ -1,8 +1,12 @@
-//! How often a script brings up what: answers, the ways into RUN and out of it, and more.
+//! How often a script brings up what: answers, the ways into RUN and out of it, and more. For
+//! lists of the frame program, `list` does the same.
 
 mod bad;
 mod bodies;
+mod list;
 mod writes;
+
+pub use list::{of_list, ListCensus};
 
 use crate::body;
 use crate::frame::{self, com, Frame};

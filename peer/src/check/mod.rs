@@ -3,6 +3,7 @@
 
 mod bench;
 mod host;
+mod lists;
 mod module;
 mod rules;
 mod script;
@@ -47,6 +48,7 @@ pub fn run() -> Tally {
     host::run(&mut tally);
     script::run(&mut tally);
     spelling::run(&mut tally);
+    lists::run(&mut tally);
     let random = &mut Random::new(7);
     for kind in 0..KINDS {
         for datl in [0, 1, 2, 7, 30, 253, 254] {

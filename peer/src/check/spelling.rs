@@ -8,7 +8,7 @@ use crate::spelling::{self, spell_frame};
 
 /// Lines and what they print, one behind the other in one input.
 const LINES: [(&str, &str); 28] = [
-    ("", "1 BAD: no such kind"),
+    (" ", "1 BAD: no such kind"),
     ("Sync", "2 BAD: no such kind"),
     ("sync", "3 BAD: src= wants 6 hex digits"),
     ("sync ", "4 BAD: src= wants 6 hex digits"),
@@ -68,6 +68,14 @@ const LINES: [(&str, &str); 28] = [
     ),
 ];
 
+/// The end of the grammar, behind the kinds.
+const CLOSING: [&str; 4] = [
+    "body xx...",
+    "P FRAME: a port digit, a space and any line above",
+    "P xx..., T ..., I ...: printed unchanged",
+    "# ...: nothing is printed",
+];
+
 pub fn run(tally: &mut Tally) {
     lines(tally);
     long_lines(tally);
@@ -80,17 +88,29 @@ pub fn run(tally: &mut Tally) {
     }
 }
 
-fn output(input: &str) -> String {
+pub fn output(input: &str) -> String {
     let mut output = Vec::new();
     spelling::run(input.as_bytes(), &mut output).expect("memory takes any text");
     String::from_utf8(output).expect("text")
 }
 
 fn lines(tally: &mut Tally) {
-    let input: Vec<&str> = LINES.iter().map(|(line, _)| *line).collect();
+    check_lines(tally, &LINES);
+}
+
+/// The lines make one input. A line that prints nothing has nothing beside it.
+pub fn check_lines(tally: &mut Tally, lines: &[(&str, &str)]) {
+    let input: Vec<&str> = lines.iter().map(|(line, _)| *line).collect();
     let given = output(&(input.join("\n") + "\n"));
-    tally.check(given.lines().count() == LINES.len(), "a line for each line");
-    for ((line, wanted), given) in LINES.iter().zip(given.lines()) {
+    let printing: Vec<_> = lines
+        .iter()
+        .filter(|(_, wanted)| !wanted.is_empty())
+        .collect();
+    // A CR at the end of a line belongs to it.
+    let given: Vec<&str> = given.split_terminator('\n').collect();
+    let as_many = given.len() == printing.len();
+    tally.check(as_many, "as many lines as are wanted");
+    for ((line, wanted), given) in printing.into_iter().zip(given) {
         tally.check(given == *wanted, &format!("the frame line {line:?}"));
     }
 }
@@ -114,14 +134,13 @@ fn long_lines(tally: &mut Tally) {
 fn grammar(tally: &mut Tally) {
     let grammar = output("");
     let lines: Vec<&str> = grammar.lines().collect();
-    tally.check(lines.len() == 14, "the grammar's lines");
+    tally.check(lines.len() == 17, "the grammar's lines");
     tally.check(lines[0] == "sync src=xxxxxx cyc=xx", "its first line");
     tally.check(
         lines[4] == "plain-write to=xx src=xx at=xx data=xx...",
         "its line with data",
     );
-    tally.check(lines[13] == "body xx...", "its last line");
-    tally.check(output("\n") == "1 BAD: no such kind\n", "an LF is a line");
+    tally.check(lines[13..] == CLOSING, "its closing lines");
 }
 
 /// The line of a frame, its body, and the same line again.

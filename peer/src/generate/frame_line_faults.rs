@@ -96,7 +96,7 @@ fn of_kind(random: &mut Random, kind: &Kind) -> Vec<Vec<u8>> {
 }
 
 /// A digit too few or too many, no digit, another character, another name or none.
-fn wrong_words(word: &str) -> Vec<String> {
+pub fn wrong_words(word: &str) -> Vec<String> {
     let (name, digits) = word.split_once('=').expect("a field");
     let short = &digits[1..];
     vec![

@@ -1,10 +1,11 @@
-//! Lines for the frame program: frames of every kind by their fields, bodies, and wrong lines.
+//! Lines for the frame program: frames of every kind by their fields, bodies, wrong lines, and the
+//! other lines of a list.
 
 use super::draft::Draft;
 use super::line::recase;
 use super::random::Random;
 use super::sample::{self, Sample};
-use super::{body_reading, frame_line_faults as faults, frame_reading};
+use super::{body_reading, frame_line_faults as faults, frame_list_lines, frame_reading};
 use crate::body;
 use crate::cases;
 use crate::frame::{com, Frame};
@@ -46,6 +47,7 @@ fn fixed(random: &mut Random) -> Vec<Vec<u8>> {
     lines.extend(bodies(random));
     let mut lines: Vec<Vec<u8>> = lines.into_iter().map(String::into_bytes).collect();
     lines.extend(faults::fixed(random));
+    lines.extend(frame_list_lines::fixed(random));
     lines
 }
 
@@ -124,12 +126,12 @@ fn bodies(random: &mut Random) -> Vec<String> {
 }
 
 /// A case that reads a body begins with its operation, two digits.
-fn of_case(case: &str) -> String {
+pub fn of_case(case: &str) -> String {
     format!("body {}", &case[2..])
 }
 
 fn any(random: &mut Random, lines: &mut Vec<Vec<u8>>) {
-    match random.below(10) {
+    match random.below(14) {
         0..=2 => {
             let line = some_frame(random);
             lines.push(recased(random, &line).into_bytes());
@@ -143,10 +145,11 @@ fn any(random: &mut Random, lines: &mut Vec<Vec<u8>>) {
             let line = some_frame(random);
             lines.push(faults::spoilt(random, line.as_bytes()));
         }
-        _ => {
+        9 => {
             let [_, line] = there_and_back(random);
             lines.push(faults::spoilt(random, line.as_bytes()));
         }
+        _ => lines.push(frame_list_lines::any(random)),
     }
 }
 
@@ -162,7 +165,7 @@ pub fn some_frame(random: &mut Random) -> String {
 }
 
 /// A frame and its own body.
-fn there_and_back(random: &mut Random) -> [String; 2] {
+pub fn there_and_back(random: &mut Random) -> [String; 2] {
     let kind = random.below(cases::KINDS as usize) as u8;
     let datl = sample::datl(random);
     let sample = sample::frame(random, kind, datl);

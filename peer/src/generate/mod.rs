@@ -10,6 +10,7 @@ pub mod draft;
 mod frame_faults;
 mod frame_line_faults;
 mod frame_lines;
+mod frame_list_lines;
 mod frame_reading;
 mod frame_writing;
 mod line;

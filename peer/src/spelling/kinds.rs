@@ -74,7 +74,14 @@ pub fn named(name: &[u8]) -> Option<&'static Kind> {
     KINDS.iter().find(|kind| kind.name.as_bytes() == name)
 }
 
-/// What an empty input prints: every kind with an x for each digit, then the form of a body.
+/// The other forms of a line, as the grammar ends.
+const OTHER_FORMS: &str = "body xx...
+P FRAME: a port digit, a space and any line above
+P xx..., T ..., I ...: printed unchanged
+# ...: nothing is printed
+";
+
+/// What an empty input prints: every kind with an x for each digit, then the other forms.
 pub fn grammar() -> String {
     let mut text = String::new();
     for kind in &KINDS {
@@ -87,5 +94,5 @@ pub fn grammar() -> String {
         }
         text += "\n";
     }
-    text + "body xx...\n"
+    text + OTHER_FORMS
 }

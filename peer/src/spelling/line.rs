@@ -1,10 +1,20 @@
-//! A line of the frame program: a frame by its kind and fields, or a body; or what is wrong with it.
+//! A line of a list for the frame program: nothing, a script's own line, or a frame or body to
+//! answer, perhaps on a port; or what is wrong with it.
 
 use super::kinds::{self, Kind};
 use crate::hex;
 use crate::script::LINE_MAX;
 
-pub enum Line {
+pub enum Line<'a> {
+    /// An empty line or a comment.
+    Nothing,
+    /// A line of a script, printed unchanged.
+    Script(&'a [u8]),
+    /// A frame or a body. What stands before the answer is a port digit and a space, or nothing.
+    Question(&'a [u8], Question),
+}
+
+pub enum Question {
     Frame(Spelled),
     Body(Vec<u8>),
 }
@@ -16,18 +26,40 @@ pub struct Spelled {
     pub data: Vec<u8>,
 }
 
-/// The first thing that is wrong.
-pub fn parse(line: &[u8]) -> Result<Line, String> {
+/// The first thing that is wrong, if anything is.
+pub fn parse(line: &[u8]) -> Result<Line<'_>, String> {
     if line.len() > LINE_MAX {
         return Err("over 1,200 characters".to_string());
     }
-    let mut words = Words { left: line };
+    if line.is_empty() || line.starts_with(b"#") {
+        return Ok(Line::Nothing);
+    }
+    if [&b"T"[..], b"I"].contains(&(Words { left: line }).first()) {
+        return Ok(Line::Script(line));
+    }
+    let (port, rest) = port(line);
+    if !port.is_empty() && hex::decode(rest).is_some() {
+        return Ok(Line::Script(line));
+    }
+    question(rest).map(|question| Line::Question(port, question))
+}
+
+/// The port digit and its space, if the line starts so, and the rest.
+fn port(line: &[u8]) -> (&[u8], &[u8]) {
+    match line {
+        [b'0'..=b'9', b' ', ..] => line.split_at(2),
+        _ => line.split_at(0),
+    }
+}
+
+fn question(text: &[u8]) -> Result<Question, String> {
+    let mut words = Words { left: text };
     let first = words.first();
     if first == b"body" {
-        return body(words.left).map(Line::Body);
+        return body(words.left).map(Question::Body);
     }
     let kind = kinds::named(first).ok_or("no such kind")?;
-    frame(kind, words).map(Line::Frame)
+    frame(kind, words).map(Question::Frame)
 }
 
 fn body(behind: &[u8]) -> Result<Vec<u8>, String> {

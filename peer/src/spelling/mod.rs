@@ -1,17 +1,19 @@
 //! The frame program: a frame by its kind and fields becomes a body, a body becomes that line.
+//! A list of such lines, with ports, ticks and comments, becomes a script.
 
 mod kinds;
 mod line;
 mod values;
 
 pub use kinds::{grammar, Kind, KINDS};
-pub use line::{parse, Line, Spelled};
+pub use line::{parse, Line, Question, Spelled};
 
 use crate::frame::{self, Frame, Received};
 use crate::hex;
 use crate::module::REPLY_ROOM;
 use crate::refusal::Refusal;
 use crate::script::Lines;
+use crate::stuffing::FLAG;
 use std::io::{self, Read, Write};
 
 pub fn run(input: impl Read, mut output: impl Write) -> io::Result<()> {
@@ -25,10 +27,7 @@ pub fn run(input: impl Read, mut output: impl Write) -> io::Result<()> {
             break;
         };
         number += 1;
-        match parse(line) {
-            Ok(line) => writeln!(output, "{}", answer(&line))?,
-            Err(complaint) => writeln!(output, "{number} BAD: {complaint}")?,
-        }
+        print(&mut output, number, line)?;
     }
     if number == 0 {
         output.write_all(grammar().as_bytes())?;
@@ -36,12 +35,35 @@ pub fn run(input: impl Read, mut output: impl Write) -> io::Result<()> {
     output.flush()
 }
 
-fn answer(line: &Line) -> String {
-    let outcome = match line {
-        Line::Frame(spelled) => body_of(spelled).map(|body| hex::encode(&body)),
-        Line::Body(body) => frame::read(body).map(|received| spell(&received)),
+fn print(output: &mut impl Write, number: u64, line: &[u8]) -> io::Result<()> {
+    match parse(line) {
+        Ok(Line::Nothing) => Ok(()),
+        Ok(Line::Script(line)) => {
+            output.write_all(line)?;
+            writeln!(output)
+        }
+        Ok(Line::Question(port, question)) => {
+            output.write_all(port)?;
+            writeln!(output, "{}", answer(&question))
+        }
+        Err(complaint) => writeln!(output, "{number} BAD: {complaint}"),
+    }
+}
+
+fn answer(question: &Question) -> String {
+    let outcome = match question {
+        Question::Frame(spelled) => body_of(spelled).map(|body| hex::encode(&body)),
+        Question::Body(body) => frame::read(between_flags(body)).map(|received| spell(&received)),
     };
     outcome.unwrap_or_else(|refusal| format!("refused {}: {}", refusal.number(), words(refusal)))
+}
+
+/// Without the two flags, where both are there, as in a reply that a trace shows.
+fn between_flags(body: &[u8]) -> &[u8] {
+    match body {
+        [FLAG, inner @ .., FLAG] => inner,
+        _ => body,
+    }
 }
 
 /// The body as it stands between the flags.

@@ -1,31 +1,43 @@
 //! Instructions a call, counted by callgrind: what runs inside the call, and what it calls.
 
 use crate::workloads::Workload;
+use std::io::ErrorKind;
 use std::process::Command;
 
 /// The counts of two runs that differ by so many calls.
 const FEW: usize = 768;
 const MANY: usize = 3 * FEW;
 
-/// `None` where there is no valgrind, or it fails.
-pub fn of(workload: &Workload, side: &str) -> Option<f64> {
+/// Or, in words, why nothing could be counted.
+pub fn of(workload: &Workload, side: &str) -> Result<f64, String> {
     let (few, many) = (run(workload, side, FEW)?, run(workload, side, MANY)?);
-    Some((many - few) as f64 / (MANY - FEW) as f64)
+    Ok((many - few) as f64 / (MANY - FEW) as f64)
 }
 
-fn run(workload: &Workload, side: &str, calls: usize) -> Option<u64> {
+fn run(workload: &Workload, side: &str, calls: usize) -> Result<u64, String> {
     let prefix = match side {
         "library" => "saturn",
         _ => "peer",
     };
+    let own = std::env::current_exe().map_err(|error| error.to_string())?;
     let output = Command::new("valgrind")
         .args(["--tool=callgrind", "--callgrind-out-file=/dev/null"])
         .args(["tick", "inputs", "frame"].map(|call| format!("--toggle-collect={prefix}_{call}")))
-        .arg(std::env::current_exe().ok()?)
+        .arg(own)
         .args(["run", side, workload.name, &calls.to_string()])
         .output()
-        .ok()?;
-    let said = String::from_utf8(output.stderr).ok()?;
+        .map_err(|error| match error.kind() {
+            ErrorKind::NotFound => "valgrind is not on the PATH".to_string(),
+            _ => format!("valgrind does not start: {error}"),
+        })?;
+    let said = String::from_utf8_lossy(&output.stderr);
+    match output.status.success() {
+        true => collected(&said).ok_or("callgrind tells no count".to_string()),
+        false => Err(format!("valgrind fails ({}):\n{said}", output.status)),
+    }
+}
+
+fn collected(said: &str) -> Option<u64> {
     let line = said.lines().find(|line| line.contains("Collected"))?;
     line.split_whitespace().last()?.parse().ok()
 }

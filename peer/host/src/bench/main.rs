@@ -23,15 +23,16 @@ fn main() -> ExitCode {
     let words: Vec<String> = std::env::args().skip(1).collect();
     let words: Vec<&str> = words.iter().map(String::as_str).collect();
     let done = match words[..] {
-        [] => {
-            table::print();
-            Some(())
-        }
-        ["run", side, workload, calls] => run(side, workload, calls),
+        [] => Some(table::print()),
+        ["run", side, workload, calls] => run(side, workload, calls).map(Ok),
         _ => None,
     };
     match done {
-        Some(()) => ExitCode::SUCCESS,
+        Some(Ok(())) => ExitCode::SUCCESS,
+        Some(Err(why)) => {
+            eprintln!("bench: {why}");
+            ExitCode::FAILURE
+        }
         None => {
             eprint!("{USAGE}");
             ExitCode::from(2)

@@ -21,8 +21,6 @@ const DAMAGED: usize = 2000;
 pub struct Workload {
     pub name: &'static str,
     pub what: &'static str,
-    /// Instructions a call of an agent written by hand in C.
-    pub by_hand: u32,
     /// The answer that every call must give; none for a mixture.
     pub answer: Option<u8>,
     start: fn() -> Agent,
@@ -41,7 +39,6 @@ pub const ALL: [Workload; 9] = [
     Workload {
         name: "a",
         what: "sync, write of 64, read of 64 in RUN",
-        by_hand: 9790,
         answer: Some(0),
         start: running,
         calls: cycles,
@@ -49,7 +46,6 @@ pub const ALL: [Workload; 9] = [
     Workload {
         name: "b1",
         what: "543 bytes, all stuffed, unknown TYP",
-        by_hand: 23_017,
         answer: Some(7),
         start: running,
         calls: all_stuffed,
@@ -57,7 +53,6 @@ pub const ALL: [Workload; 9] = [
     Workload {
         name: "b2",
         what: "write of 255 bytes, refused with 16",
-        by_hand: 40_279,
         answer: Some(16),
         start: running,
         calls: longest_write,
@@ -65,7 +60,6 @@ pub const ALL: [Workload; 9] = [
     Workload {
         name: "c",
         what: "damaged bodies of every kind, mean 32",
-        by_hand: 2496,
         answer: None,
         start: running,
         calls: damaged,
@@ -73,7 +67,6 @@ pub const ALL: [Workload; 9] = [
     Workload {
         name: "c4",
         what: "bodies with one bit turned, mean 32",
-        by_hand: 2496,
         answer: None,
         start: running,
         calls: turned,
@@ -81,7 +74,6 @@ pub const ALL: [Workload; 9] = [
     Workload {
         name: "d1",
         what: "ticks in RUN, 1 recorded",
-        by_hand: 141,
         answer: Some(0),
         start: running,
         calls: ticks,
@@ -89,7 +81,6 @@ pub const ALL: [Workload; 9] = [
     Workload {
         name: "d8",
         what: "ticks in RUN, 8 recorded",
-        by_hand: 372,
         answer: Some(0),
         start: running_with_eight,
         calls: ticks,
@@ -97,7 +88,6 @@ pub const ALL: [Workload; 9] = [
     Workload {
         name: "df",
         what: "ticks in fallback",
-        by_hand: 144,
         answer: Some(0),
         start: heard_in_fallback,
         calls: ticks,
@@ -105,7 +95,6 @@ pub const ALL: [Workload; 9] = [
     Workload {
         name: "e",
         what: "inputs",
-        by_hand: 129,
         answer: Some(0),
         start: running,
         calls: inputs,
