@@ -2,7 +2,6 @@
 ghost use lib.ListN.{length};
 ghost use Rattle.rules.specs.Calls.{tickCall, inputCall, frameCall, Answers, AnswersFrame};
 use crate::frame_call::on_frame;
-use agent_events::inputs::with_inputs;
 use agent_replies::sending::Handled;
 use agent_replies::sending::send;
 use agent_replies::sending::unsent;
@@ -12,6 +11,7 @@ use agent_state::answers::REPLY_ROOM;
 use agent_state::answers::UNSOUND;
 use agent_state::registers::IMAGE;
 use agent_state::sound::sound;
+use agent_ticks::inputs::with_inputs;
 use rules::Agent;
 
 // The answer, and the agent afterwards.
@@ -24,7 +24,7 @@ pub fn tick(a: Agent) -> Told
     ensures { λ r. ⌜ Answers (tickCall a) (r .answer) (r .agent) ⌝ }
 {
     if sound(a) {
-        let next = agent_events::tick::tick(a);
+        let next = agent_ticks::tick::tick(a);
         return Told {
             answer: ACCEPTED,
             agent: next,

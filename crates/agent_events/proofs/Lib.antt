@@ -1,3 +1,0 @@
-pub mod TickLaws
-pub mod WriteLaws
-pub mod SpanArms
