@@ -6,7 +6,7 @@ ghost use lib.Seq.{sets};
 ghost use Rattle.runs.specs.Log.{recordOf, recordSize};
 use rules::Agent;
 
-// Bytes copied from a place on; the next place.
+// Copies bytes, starting at index `from`; returns the next index.
 fn copy_at(src: &[u8], dst: &mut [u8], from: usize) -> usize
     requires { ⌜ from + length (now src) ≤ length (now dst) ⌝ }
     ensures { λ r. ⌜ (r ≡ from + length (now (src .entry))) × (now (dst .exit) ≡ sets (now (dst .entry)) from (now (src .entry))) ⌝ }
@@ -19,10 +19,10 @@ fn copy_at(src: &[u8], dst: &mut [u8], from: usize) -> usize
     from + i
 }
 
-// The bytes of a record.
+// The length of a record, in bytes.
 pub const RECORD: usize = 258;
 
-// A record; the next place.
+// Writes a record at index `at`; returns the next index.
 pub fn put(answer: u8, a: Agent, log: &mut [u8], at: usize) -> usize
     requires { ⌜ at + recordSize ≤ length (now log) ⌝ }
     ensures { λ r. ⌜ (r ≡ at + recordSize) × (length (a .regs) ≡ 256) × (now (log .exit) ≡ sets (now (log .entry)) at (recordOf answer a)) ⌝ }
