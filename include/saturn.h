@@ -7,30 +7,30 @@
  *   In fallback it is all zero.
  * - When a call answers SATURN_UNSOUND (19), switch the terminals off and call saturn_power_up. The state was damaged from
  *   outside. Every further call would answer 19 and leave it as it is: a module that was in RUN would stay in RUN with its
- *   outputs on, since no time limit runs any more. After saturn_power_up give the inputs again; the concentrators must
+ *   outputs on, since no time limit runs any more. After saturn_power_up set the inputs again; the concentrators must
  *   assign and release the module again.
- *   19 does not replace a memory test: damage that leaves a state sound, say in the outputs in RUN, is not seen.
+ *   19 does not replace a memory test: damage that leaves a state sound, say in the outputs in RUN, is not detected.
  *
- * What the caller keeps:
- * - Every pointer is valid for the whole length and aligned for its type. No pointer is null: with length 0 too, give the
+ * What the caller must ensure:
+ * - Every pointer is valid for the whole length and aligned for its type. No pointer is null: with length 0 too, pass the
  *   address of some byte. What a null pointer does is not defined, even with length 0.
  * - agent, reply and sent overlap neither one another nor body and inputs.
  * - During a call nothing else, an interrupt included, writes any of them, or reads agent, reply and sent.
- * Nothing is asked of what they hold. No call keeps a pointer after it returns.
+ * What they hold may be anything. No call keeps a pointer after it returns.
  *
  * What the library needs:
  * - x86-64 with SSE2 and the System V calling convention. It uses SSE registers and the red zone: on bare metal enable SSE
  *   before the first call, and let no interrupt use the 128 bytes below the stack pointer.
- * - memcpy and memset, and nothing else: no heap, no other library.
+ * - memcpy and memset only: no heap, no other library.
  * - 4,000 bytes of stack in the deepest call (measured, not proved; docs/PROVED.md, 'Figures').
- * It has no static data that is written. Agents may run in parallel, each with its own buffers. */
+ * It writes no static data. Agents may run in parallel, each with its own buffers. */
 #ifndef SATURN_H
 #define SATURN_H
 
 #include <stddef.h>
 #include <stdint.h>
 
-/* of this header and the library that it was installed with */
+/* the version of this header, and of the library that it was installed with */
 #define SATURN_VERSION_MAJOR 1
 #define SATURN_VERSION_MINOR 0
 #define SATURN_VERSION_PATCH 0
@@ -44,7 +44,7 @@ extern "C" {
  * them: compare two agents field by field, not with memcmp. */
 typedef struct saturn_agent {
     uint8_t regs[256]; /* the registers */
-    uint32_t known[8]; /* the recorded concentrators, the first `count` of them; power-up puts FFFFFFh in all */
+    uint32_t known[8]; /* the recorded concentrators are the first `count`; power-up puts FFFFFFh in all */
     uint32_t last;     /* the source of the last accepted sync; FFFFFFh for none */
     uint16_t silence;  /* s: ms since the last accepted sync, stops at 65,535 */
     uint16_t idle;     /* q: ms since the last output write or entry to RUN */
@@ -56,7 +56,7 @@ typedef struct saturn_agent {
     uint8_t count;     /* how many concentrators are recorded */
 } saturn_agent;
 
-/* a compiler that lays the struct out in another way cannot use the library */
+/* a compiler that lays out the struct differently cannot use the library */
 #define SATURN_AGENT_SIZE 304
 #if defined(__cplusplus)
 static_assert(sizeof(saturn_agent) == SATURN_AGENT_SIZE && alignof(saturn_agent) == 4, "saturn_agent is not as in the library");
@@ -79,9 +79,9 @@ enum {
     SATURN_REG_STATUT = 0x19,    /* the status; bit 7 is set in fallback */
     SATURN_REG_CNF_REP = 0x1A,   /* m: cycles without an output write until fallback */
     SATURN_REG_CNF_CYC = 0x1B,   /* n: cycles without a sync until fallback */
-    SATURN_REG_AD_REF = 0x1C,    /* the reply to a sync carries the registers from here */
-    SATURN_REG_SZ_REF = 0x1D,    /* and so many of them */
-    SATURN_REG_CPT_TOCO1 = 0x1E, /* counters, to CPT_FOR; the agent itself counts CPT_SEQ and CPT_FOR alone */
+    SATURN_REG_AD_REF = 0x1C,    /* the reply to a sync carries registers starting here */
+    SATURN_REG_SZ_REF = 0x1D,    /* and this many of them */
+    SATURN_REG_CPT_TOCO1 = 0x1E, /* counters, up to CPT_FOR; the agent itself counts only CPT_SEQ and CPT_FOR */
     SATURN_REG_CPT_TOCO2 = 0x1F,
     SATURN_REG_CPT_SEQ = 0x20,   /* frames with a wrong CYC or SEQ */
     SATURN_REG_CPT_TOAC1 = 0x21,
@@ -93,31 +93,31 @@ enum {
     SATURN_REG_INPUTS = 0xC0     /* SATURN_IMAGE bytes: the inputs */
 };
 
-/* how many outputs and how many inputs there are, in bytes */
+/* the number of outputs, and of inputs, in bytes */
 enum { SATURN_IMAGE = 64 };
 
-/* the least length of the reply buffer */
+/* the minimum length of the reply buffer, in bytes */
 enum { SATURN_REPLY_ROOM_LEAST = 545 };
 
 /* the answers: 0 is accepted, error replies included; the others are refusals */
 enum {
     SATURN_ACCEPTED = 0,
     /* the line */
-    SATURN_BODY_LENGTH = 1,      /* the body does not have 7 to 543 bytes */
-    SATURN_STUFFING = 2,         /* behind the address, a 7Eh, or a 7Dh not followed by 5Dh or 5Eh */
-    SATURN_UNSTUFFED_LENGTH = 3, /* not 7 to 272 bytes without stuffing */
+    SATURN_BODY_LENGTH = 1,      /* the body is not 7 to 543 bytes long */
+    SATURN_STUFFING = 2,         /* after the address, a 7Eh, or a 7Dh not followed by 5Dh or 5Eh */
+    SATURN_UNSTUFFED_LENGTH = 3, /* without stuffing, not 7 to 272 bytes long */
     SATURN_FCS = 4,
     /* other stations */
     SATURN_RESERVED = 5,  /* reserved address */
-    SATURN_ELSEWHERE = 6, /* address not the own TID, 90h or FFh */
+    SATURN_ELSEWHERE = 6, /* address not the module's TID, 90h or FFh */
     /* a concentrator */
     SATURN_TYP = 7,            /* TYP unknown or not served */
     SATURN_FORM = 8,           /* length, COM or sync address wrong for the TYP */
     SATURN_CRC = 9,
     SATURN_SOURCE = 10,        /* source FFFFFFh or not the one demanded */
-    SATURN_ADDRESSEE = 11,     /* SID, MAC or IID not the own */
+    SATURN_ADDRESSEE = 11,     /* SID, MAC or IID not the module's */
     SATURN_CYCLE = 12,         /* CYC not the one due */
-    SATURN_REPEAT = 13,        /* a copy of a frame taken before */
+    SATURN_REPEAT = 13,        /* a copy of a sync accepted before, or of a request taken before */
     SATURN_OUT_OF_ORDER = 14,  /* SEQ not the one due */
     SATURN_TOO_MANY = 15,      /* due, but 64 requests were taken in the cycle */
     SATURN_OUTSIDE_RULES = 16, /* write outside the rules */
@@ -159,19 +159,19 @@ static inline const char *saturn_answer_text(uint8_t answer)
     }
 }
 
-/* Power-up: the agent is in fallback, unheard, with nobody recorded and the registers as after power-up with these
- * MAC, IID and VER, whatever it held before. */
+/* Power-up: whatever it held before, the agent is now in fallback, unheard, with nobody recorded, and its registers have
+ * their power-up values, with this MAC, IID and VER. */
 void saturn_power_up(saturn_agent *agent, uint64_t mac, uint64_t iid, uint16_t ver);
 
-/* One millisecond: the cycle, the silence and the idle time go on, and a limit reached is fallback; 0 or 19. */
+/* One millisecond: e, s and, in RUN, q count on, and a limit that is reached leads to fallback. Answers 0 or 19. */
 uint8_t saturn_tick(saturn_agent *agent);
 
-/* The inputs: registers C0h to FFh are these 64 bytes; 0, 19 or 21, and for 19 and 21 the agent is as it was. */
+/* The inputs: registers C0h to FFh become these 64 bytes. Answers 0, 19 or 21; with 19 and 21 the agent is left as it was. */
 uint8_t saturn_inputs(saturn_agent *agent, const uint8_t *inputs, size_t inputs_length);
 
-/* A body that came on port 1 or 2, from the address to the FCS, still stuffed and without flags: the frame has its
- * effect, the first *sent bytes of reply are the whole reply with both flags, to be sent on both ports, and the rest of
- * reply is as it was; *sent is 0 for no reply. For 19, 20 and 21 agent and reply are as they were and *sent is 0. */
+/* A body received on port 1 or 2, from the address to the FCS, still stuffed and without flags. The frame has its effect.
+ * The first *sent bytes of reply are the whole reply with both flags, to be sent on both ports; the rest of reply is left
+ * as it was. *sent is 0 if there is no reply. With 19, 20 and 21 agent and reply are left as they were and *sent is 0. */
 uint8_t saturn_frame(saturn_agent *agent, uint8_t port, const uint8_t *body, size_t body_length, uint8_t *reply,
                      size_t reply_length, uint16_t *sent);
 

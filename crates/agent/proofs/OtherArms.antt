@@ -1,4 +1,4 @@
--- What the last arm of a `match` leaves: each of the values that it stands for. Assumes nothing.
+-- The last arm of a `match`, for each of the values that it stands for. Assumes nothing.
 use mathlib.Core.Path.{_≡_, refl}
 use mathlib.Core.List.{List, [], _∷_}
 use Prim.Native.Nat.{ℕ}

@@ -1,4 +1,5 @@
--- A frame that this module reads is whole: its source has 24 bits, and the data of a write stand at 12. Assumes nothing.
+-- A frame that this module reads is whole: its source has 24 bits, and the data of a write are all there, from 12 on.
+-- Assumes nothing.
 use mathlib.Core.Path.{_≡_, refl, sym, ap, _∙_}
 use mathlib.Core.List.{List, [], _∷_}
 use Prim.Native.Nat.{ℕ, _-_, _≤_}

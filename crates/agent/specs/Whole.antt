@@ -1,4 +1,4 @@
--- What a frame that was read in application data brings: its source has 24 bits, and its data stand there whole.
+-- What holds of a frame that was read in application data: its source has 24 bits, and its data are all there.
 -- Assumes nothing.
 use mathlib.Core.List.{List}
 use Prim.Native.Nat.{ℕ, _+_, _^_, _<_, _≤_}
@@ -8,7 +8,7 @@ use Rattle.frame_kinds.specs.declared.kinds.Frame.the-variants.{Sync, SafeRead,
 use Rattle.frame_reading.specs.declared.reading.Read.{Read}
 use Rattle.frame_reading.specs.declared.reading.Read.the-variants.{Valid, Kind, Form, Check}
 
--- where the code looks: a source, and the data of a write
+-- as far as the code looks: the source, and the data of a write
 abbrev pub Whole : Frame → List ℕ → Type 0
 Whole (Sync src cyc) s = src < 2 ^ 24
 Whole (SafeRead dest src cyc seq datl add) s = src < 2 ^ 24

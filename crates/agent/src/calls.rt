@@ -1,4 +1,4 @@
-// The calls, with the host's numbers first: 19, 20, 21.
+// The calls: the host's numbers, 19, 20 and 21, come first.
 ghost use lib.ListN.{length};
 ghost use Rattle.rules.specs.Calls.{tickCall, inputCall, frameCall, Answers, AnswersFrame};
 use crate::frame_call::on_frame;
@@ -58,10 +58,10 @@ pub fn inputs(a: Agent, xs: &[u8]) -> Told
     }
 }
 
-// The reply buffer has at least so many bytes.
+// The minimum length of the reply buffer, in bytes.
 const LEAST_ROOM: usize = 545;
 
-// A body that came on a port, with a buffer for a reply, whose bytes past what is sent keep their value.
+// A body received on a port, and the reply buffer, whose bytes past what is sent keep their value.
 pub fn frame(a: Agent, port: u8, body: &[u8], reply: &mut [u8]) -> Handled
     ensures { λ r. ⌜ AnswersFrame (frameCall a port (now (body .entry)) (length (now (reply .entry)))) (r .answer) (r .agent) (r .sent) (now (reply .entry)) (now (reply .exit)) ⌝ }
 {

@@ -1,4 +1,4 @@
-// The frame call: numbers 1 to 9, and then by the kind of frame.
+// The frame call: numbers 1 to 9, then what the kind of frame does.
 ghost use mathlib.Core.Path.{_≡_};
 ghost use Prim.Native.Nat.{_≤_};
 ghost use lib.ListN.{length};
@@ -32,10 +32,11 @@ use wire::body::Verdict;
 use wire::body::read_body;
 use wire::body::verdict_number;
 
-// Where the data of a write stand: behind ADD.
+// Where the data of a write start: after ADD.
 const DATA_PLACE: usize = 12;
 
-// By the kind of a served frame that was read in application data.
+// By the kind of frame that was read in the application data `s`. The last two arms are never reached: `agent_read`
+// yields only frames that are served.
 fn on_kind(port: u8, a: Agent, f: Frame, s: &[u8]) -> Deed
     requires { ⌜ Whole f (now s) × (length (now s) ≤ 272) ⌝ }
     ensures { λ r. ⌜ (r ≡ onKind port a f (dataIn f (now (s .entry)))) × Fitting (r .reply) ⌝ }
@@ -68,7 +69,7 @@ fn on_kind(port: u8, a: Agent, f: Frame, s: &[u8]) -> Deed
     }
 }
 
-// Served: 00h, 07h, 3Ch, C3h, and nothing between them.
+// The TYPs that are served: 00h, 07h, 3Ch, C3h.
 fn served(typ: u8) -> bool
     ensures { λ r. ⌜ r ≡ served typ ⌝ }
 {
@@ -114,7 +115,7 @@ fn on_read(port: u8, a: Agent, read: Read, s: &[u8]) -> Deed
     }
 }
 
-// 6: the address is the own TID, 90h or FFh.
+// 6 unless the address is the own TID, 90h or FFh.
 fn is_own(a: Agent, addr: u8) -> bool
     ensures { λ r. ⌜ r ≡ isOwn a addr ⌝ }
 {
@@ -148,7 +149,7 @@ fn on_body(port: u8, a: Agent, b: Body) -> Deed
     }
 }
 
-// A body that came on a port.
+// A body received on a port.
 pub fn on_frame(port: u8, a: Agent, body: &[u8]) -> Deed
     ensures { λ r. ⌜ (r ≡ onFrame port a (now (body .entry))) × Fitting (r .reply) ⌝ }
 {

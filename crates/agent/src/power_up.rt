@@ -1,4 +1,4 @@
-// The agent at power-up: its registers, and the state beside them.
+// The agent at power-up: its registers, and the rest of its state.
 ghost use mathlib.Core.Path.{_≡_};
 ghost use lib.ListN.{replicate};
 ghost use lib.Seq.{sets};

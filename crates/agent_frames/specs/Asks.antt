@@ -1,4 +1,4 @@
--- How the code holds what a request asks for: the bytes of a write stand in a slice beside it. Assumes nothing.
+-- How the code holds what a request asks for: the bytes of a write are passed along in a slice. Assumes nothing.
 use mathlib.Core.List.{List}
 use Prim.Native.Nat.{ℕ}
 use Rattle.rules.specs.Requests.{reads, writes}

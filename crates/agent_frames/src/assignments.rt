@@ -24,7 +24,7 @@ use agent_state::tid::assignable;
 use rules::Agent;
 use rules::Deed;
 
-// For the own IID; no reply.
+// For the module's own IID; no reply.
 pub fn on_tid(a: Agent, iid: u64, tid: u8) -> Deed
     ensures { λ r. ⌜ (r ≡ onTid a iid tid) × Fitting (r .reply) ⌝ }
 {
@@ -39,7 +39,7 @@ pub fn on_tid(a: Agent, iid: u64, tid: u8) -> Deed
     does(NOT_ALLOWED, a)
 }
 
-// The first is accepted if SID and SRC differ from FFFFFFh.
+// The first is accepted if SID and SRC differ from FFFFFFh; `on_sid` tests SRC.
 fn on_first_sid(a: Agent, src: u32, sec: u32, sid: u32) -> Deed
     requires { ⌜ (src < 2 ^ 24) × (a .count ≡ 0) ⌝ }
     ensures { λ r. ⌜ (r ≡ onFirstSid a src sec sid) × Fitting (r .reply) ⌝ }
@@ -52,7 +52,7 @@ fn on_first_sid(a: Agent, src: u32, sec: u32, sid: u32) -> Deed
     acknowledges(recorded(src, next), src, sec)
 }
 
-// Later ones must repeat the SID, and record a new SRC; a known SRC is acknowledged again.
+// Later ones must repeat the SID; a new SRC is recorded, and a known SRC is acknowledged again.
 fn on_later_sid(a: Agent, src: u32, sec: u32, sid: u32) -> Deed
     requires { ⌜ src < 2 ^ 24 ⌝ }
     ensures { λ r. ⌜ (r ≡ onLaterSid a src sec sid) × Fitting (r .reply) ⌝ }
@@ -69,7 +69,7 @@ fn on_later_sid(a: Agent, src: u32, sec: u32, sid: u32) -> Deed
     acknowledges(recorded(src, a), src, sec)
 }
 
-// For the own MAC.
+// For the module's own MAC.
 pub fn on_sid(a: Agent, src: u32, sec: u32, mac: u64, sid: u32) -> Deed
     requires { ⌜ src < 2 ^ 24 ⌝ }
     ensures { λ r. ⌜ (r ≡ onSid a src sec mac sid) × Fitting (r .reply) ⌝ }

@@ -29,14 +29,14 @@ fn first_seq(cyc: u8) -> u8
     std::num::wrapping_add_u8(!cyc, 1)
 }
 
-// d = SEQ minus that first, modulo 256.
+// d = SEQ minus the first SEQ, modulo 256.
 fn distance(seq: u8, cyc: u8) -> u8
     ensures { λ r. ⌜ r ≡ distance seq cyc ⌝ }
 {
     std::num::wrapping_sub_u8(seq, first_seq(cyc))
 }
 
-// What a request asks for: DATL and ADD of a read, ADD of a write, whose bytes stand in a slice beside it.
+// What a request asks for: DATL and ADD of a read, or ADD of a write, whose bytes are passed along in a slice.
 pub enum Ask {
     Reads(u8, u8),
     Writes(u8),
@@ -52,7 +52,8 @@ fn on_ask(port: u8, a: Agent, src: u32, seq: u8, ask: Ask, xs: &[u8]) -> Deed
     }
 }
 
-// By the distance: below k is a repeat, above k is out of order; a due one raises k even if its write is then refused.
+// By the distance: below k is a repeat, above k is out of order; a request that is due raises k even if its write is
+// then refused.
 fn on_distance(port: u8, a: Agent, src: u32, seq: u8, d: u8, ask: Ask, xs: &[u8]) -> Deed
     requires { ⌜ (src < 2 ^ 24) × (length (now xs) ≤ 272) ⌝ }
     ensures { λ r. ⌜ (r ≡ onDistance port a src seq d (askOf ask (now (xs .entry)))) × Fitting (r .reply) ⌝ }
@@ -71,7 +72,8 @@ fn on_distance(port: u8, a: Agent, src: u32, seq: u8, d: u8, ask: Ask, xs: &[u8]
     on_ask(port, next, src, seq, ask, xs)
 }
 
-// 10: the source is that of the last accepted sync; 11: the own SID; 12: the cycle is heard and CYC = c.
+// 10 unless the source is that of the last accepted sync; 11 unless DEST is the own SID; 12 unless the cycle is heard
+// and CYC = c.
 pub fn on_request(
     port: u8,
     a: Agent,

@@ -1,4 +1,4 @@
-// Sync: a repeat, a cycle that does not fit, or an accepted one, which may lead to RUN.
+// Sync: a repeat, one whose cycle does not fit, or an accepted one, which may lead to RUN.
 ghost use mathlib.Core.Path.{_≡_};
 ghost use Prim.Native.Nat.{_^_, _<_};
 ghost use Rattle.rules.specs.Sync.{isRepeat, cycleFits, heardSync, synced, onSync};
@@ -20,7 +20,7 @@ use agent_state::state::NOBODY;
 use rules::Agent;
 use rules::Deed;
 
-// A repeat: heard, CYC = c and the same source as the last.
+// A repeat: heard, CYC = c and the same source as the last accepted sync.
 fn is_repeat(a: Agent, src: u32, cyc: u8) -> bool
     ensures { λ r. ⌜ r ≡ isRepeat a src cyc ⌝ }
 {
@@ -49,7 +49,7 @@ fn heard_sync(src: u32, cyc: u8, a: Agent) -> Agent
     next
 }
 
-// And in fallback with OUT_REP 55h the mode becomes RUN.
+// The same, and in fallback with OUT_REP 55h the mode becomes RUN.
 fn synced(src: u32, cyc: u8, a: Agent) -> Agent
     ensures { λ r. ⌜ r ≡ synced src cyc a ⌝ }
 {
@@ -61,7 +61,7 @@ fn synced(src: u32, cyc: u8, a: Agent) -> Agent
     next
 }
 
-// 10, then 13 before 12; 12 in RUN only, and then fallback.
+// 10, then 13 before 12; 12 comes in RUN only, and leads to fallback.
 pub fn on_sync(port: u8, a: Agent, src: u32, cyc: u8) -> Deed
     requires { ⌜ src < 2 ^ 24 ⌝ }
     ensures { λ r. ⌜ (r ≡ onSync port a src cyc) × Fitting (r .reply) ⌝ }

@@ -1,4 +1,4 @@
--- The spans that replies say can be laid down. Assumes nothing.
+-- The spans that replies carry can be laid down. Assumes nothing.
 use mathlib.Core.Path.{_≡_, refl}
 use mathlib.Core.Bool.{true, false, _||_}
 use Prim.Native.Nat.{ℕ, _+_, _≤_, _<_}

@@ -1,5 +1,5 @@
 -- A reply that fits is sent whole: its data bytes are those of the registers that the code lends, it takes at most 545
--- bytes, and the writer refuses none. Assumes nothing.
+-- bytes, and the writer does not refuse it. Assumes nothing.
 use mathlib.Core.Path.{_≡_, refl, sym, ap, ap₂, _∙_}
 use mathlib.Core.Bool.{true, _&&_}
 use mathlib.Core.List.{List, [], _∷_, _++_}

@@ -1,5 +1,5 @@
--- Replies that can be laid down. Each function that makes a deed shows it of its reply, so every reply is sent whole.
--- Assumes nothing.
+-- Replies that can be laid down. Each function that makes a deed promises this of its reply, so every reply is sent
+-- whole. Assumes nothing.
 use mathlib.Core.Bool.{true}
 use mathlib.Core.Path.{_≡_}
 use Prim.Native.Nat.{ℕ, _+_, _^_, _<_, _≤_}
@@ -13,7 +13,7 @@ use Rattle.rules.specs.declared.Reply.the-variants.{Silent, Says}
 abbrev pub Spans : ℕ → ℕ → ℕ → Type 0
 Spans «com» datl add = (safeCom «com» datl ≡ true) × (add + datl ≤ 256)
 
--- the module says safe responses and acknowledgements; a SID has 24 bits
+-- the module sends only safe responses and acknowledgements; a SID has 24 bits
 abbrev pub Laying : Frame → Type 0
 Laying (SafeResponse dest src cyc seq «com» datl add stat) = (dest < 2 ^ 24) × (src < 2 ^ 24) × Spans «com» datl add
 Laying (Acknowledgement src dst sec mac) = (src < 2 ^ 24) × (dst < 2 ^ 24)

@@ -1,4 +1,4 @@
--- What a call hands back, held to what it does: answer, agent, how much was sent, and the reply buffer. Assumes nothing.
+-- A call returns what the rules give: answer, agent, sent length and reply buffer. Assumes nothing.
 use mathlib.Core.List.{List}
 use Prim.Native.Nat.{ℕ}
 use Rattle.frame_kinds.specs.declared.kinds.Frame.{Frame}
@@ -18,14 +18,14 @@ Handles o r before after = AnswersFrame o (r .answer) (r .agent) (r .sent) befor
 abbrev pub unsent : ℕ → Agent → Handled
 unsent n a = record { answer = n; agent = a; sent = 0 }
 
--- how many bytes an answer of the writer says were laid down
+-- how many bytes were laid down, by the answer of the writer
 abbrev pub lengthIn : Laid → ℕ
 lengthIn (Sent n) = n
 lengthIn Reserved = 0
 lengthIn Form = 0
 lengthIn Room = 0
 
--- the registers that a reply shows: from ADD on, DATL of them, with STAT at 19h
+-- the registers that a reply shows: DATL of them, starting at ADD, with STAT at 19h
 abbrev pub partOf : Frame → Part
 partOf (SafeResponse dest src cyc seq «com» datl add stat) = record { add = add; datl = datl; stat = stat }
 partOf (Sync src cyc) = record { add = 0; datl = 0; stat = 0 }

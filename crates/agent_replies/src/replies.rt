@@ -58,7 +58,7 @@ fn response(port: u8, a: Agent, dest: u32, seq: u8, com: u8, datl: u8, add: u8) 
     }
 }
 
-// No such span can be said: DATL is 1 to 254, and ADD + DATL at most 256.
+// Whether a reply cannot carry this span: DATL must be 1 to 254, and ADD + DATL at most 256.
 fn no_span(datl: u8, add: u8) -> bool
     ensures { λ r. ⌜ r ≡ (eqb datl 0 || eqb datl 255 || ltb 256 (add + datl)) ⌝ }
 {

@@ -1,4 +1,4 @@
-// Replies sent: laid down in the reply buffer, after which STATUT keeps only bit 7.
+// Sending replies: a reply is laid down in the reply buffer; after that STATUT keeps only bit 7.
 ghost use mathlib.Core.List.{_++_};
 ghost use mathlib.Core.Path.{_≡_};
 ghost use Prim.Native.Nat.{_≤_};
@@ -16,7 +16,7 @@ use rules::Deed;
 use rules::Reply;
 use wire::laying::Laid;
 
-// The answer, the agent afterwards, and how many bytes stand in the reply buffer to be sent.
+// The answer, the agent afterwards, and how many bytes of the reply buffer are to be sent.
 pub struct Handled {
     pub answer: u8,
     pub agent: Agent,
@@ -26,14 +26,14 @@ pub struct Handled {
 // Replies go to all concentrators.
 const REPLY_ADDRESS: u8 = 0xF0;
 
-// With CONF bit 2 set nothing is sent, effects remain.
+// With CONF bit 2 set nothing is sent, but effects remain.
 fn muted(a: Agent) -> bool
     ensures { λ r. ⌜ r ≡ muted a ⌝ }
 {
     a.regs[CONF] & 0x04 == 0x04
 }
 
-// The registers that a reply shows: from ADD on, DATL of them, with STAT at 19h.
+// The registers that a reply shows: DATL of them, starting at ADD, with STAT at 19h.
 struct Part {
     add: u8,
     datl: u8,
@@ -70,7 +70,7 @@ fn length_in(laid: Laid) -> usize
     }
 }
 
-// A reply laid down; how many bytes it takes.
+// Lays down a reply; returns how many bytes it takes.
 fn lay_reply(f: Frame, a: Agent, reply: &mut [u8]) -> u16
     requires { ⌜ Laying f × (545 ≤ length (now reply)) ⌝ }
     ensures { λ r. ⌜ (r ≡ length (frameLine 0xF0 f (replyData a f))) × (now (reply .exit) ≡ frameLine 0xF0 f (replyData a f) ++ drop (length (frameLine 0xF0 f (replyData a f))) (now (reply .entry))) ⌝ }
@@ -95,7 +95,7 @@ pub fn unsent(n: u8, a: Agent) -> Handled
     }
 }
 
-// A frame sent, unless the module is muted.
+// Sends a frame, unless the module is muted.
 fn send_frame(f: Frame, n: u8, a: Agent, reply: &mut [u8]) -> Handled
     requires { ⌜ Laying f × (545 ≤ length (now reply)) ⌝ }
     ensures { λ r. ⌜ Handles (sendFrame f n a) r (now (reply .entry)) (now (reply .exit)) ⌝ }
@@ -113,7 +113,7 @@ fn send_frame(f: Frame, n: u8, a: Agent, reply: &mut [u8]) -> Handled
     }
 }
 
-// What a frame would have the module send, sent.
+// Sends what the deed says is to be sent, if anything.
 pub fn send(d: Deed, reply: &mut [u8]) -> Handled
     requires { ⌜ Fitting (d .reply) × (545 ≤ length (now reply)) ⌝ }
     ensures { λ r. ⌜ Handles (sent d) r (now (reply .entry)) (now (reply .exit)) ⌝ }

@@ -1,4 +1,4 @@
--- In a sound state there is room for one more in e and q. Assumes nothing.
+-- In a sound state e and q can each be raised by one without overflow. Assumes nothing.
 use mathlib.Core.Path.{_≡_}
 use mathlib.Core.Bool.{true}
 use mathlib.Core.Logic.{⊎-elim}

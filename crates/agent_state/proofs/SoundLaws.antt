@@ -1,4 +1,4 @@
--- Soundness, part by part, from what the tests of each part came to. Assumes nothing.
+-- Soundness, part by part, from the results of each part's tests. Assumes nothing.
 use mathlib.Core.Path.{_≡_, refl, sym, ap, _∙_}
 use mathlib.Core.Bool.{Bool, true, false, not, _&&_, _||_, Bool·beq}
 use mathlib.Core.List.{List}

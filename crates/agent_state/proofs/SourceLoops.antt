@@ -1,4 +1,4 @@
--- The tests over the first n recorded concentrators, one turn of a loop on. Assumes nothing.
+-- The tests over the first n recorded concentrators, after one more turn of a loop. Assumes nothing.
 use mathlib.Core.Path.{_≡_, refl, sym, ap, ap₂, _∙_}
 use mathlib.Core.Bool.{Bool, true, false, not, _&&_, _||_}
 use mathlib.Core.List.{List}

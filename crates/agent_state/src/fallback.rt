@@ -10,12 +10,12 @@ use crate::state::IN_FALLBACK;
 use crate::state::IN_RUN;
 use rules::Agent;
 
-// OUT_REP: released, and not.
+// OUT_REP: released, and not released.
 pub const RELEASED: u8 = 0x55;
 
 pub const WITHHELD: u8 = 0xAA;
 
-// 80h to BFh to 00h, OUT_REP to AAh, q to 0 and STATUT bit 7.
+// Sets 80h to BFh to 00h, OUT_REP to AAh, q to 0 and STATUT bit 7.
 pub fn enter_fallback(a: Agent) -> Agent
     ensures { λ r. ⌜ r ≡ enterFallback a ⌝ }
 {

@@ -41,7 +41,7 @@ pub const OUTPUTS: usize = 0x80;
 
 pub const INPUTS: usize = 0xC0;
 
-// How many outputs and inputs there are.
+// How many outputs, and how many inputs, there are.
 pub const IMAGE: usize = 64;
 
 fn wide(x: u8) -> u64
@@ -56,14 +56,14 @@ fn word(x: u8) -> u32
     x as u32
 }
 
-// A byte times a byte.
+// The product of two bytes, which fits 16 bits.
 pub fn product(x: u8, y: u8) -> u16
     ensures { λ r. ⌜ r ≡ x * y ⌝ }
 {
     (x as u16) * (y as u16)
 }
 
-// The number in three registers from a place on.
+// The number in the three registers starting at `at`.
 pub fn number3(regs: &[u8; 256], at: usize) -> u32
     requires { ⌜ at + 3 ≤ 256 ⌝ }
     ensures { λ r. ⌜ (r ≡ lowNumber (now (regs .entry)) at 3) × (r < 2 ^ 24) ⌝ }
@@ -74,7 +74,7 @@ pub fn number3(regs: &[u8; 256], at: usize) -> u32
     low + (middle + high * 256) * 256
 }
 
-// And in eight.
+// The number in the eight registers starting at `at`.
 pub fn number8(regs: &[u8; 256], at: usize) -> u64
     requires { ⌜ at + 8 ≤ 256 ⌝ }
     ensures { λ r. ⌜ r ≡ lowNumber (now (regs .entry)) at 8 ⌝ }
@@ -88,7 +88,7 @@ pub fn number8(regs: &[u8; 256], at: usize) -> u64
     n
 }
 
-// The low bytes of a number stored from a place on.
+// Stores the `width` low bytes of a number, starting at `at`.
 pub fn put_low(regs: &mut [u8; 256], at: usize, width: usize, n: u64)
     requires { ⌜ at + width ≤ 256 ⌝ }
     ensures { λ r. ⌜ now (regs .exit) ≡ sets (now (regs .entry)) at (lowBytes width n) ⌝ }
@@ -102,7 +102,7 @@ pub fn put_low(regs: &mut [u8; 256], at: usize, width: usize, n: u64)
     }
 }
 
-// One value stored some times from a place on.
+// Stores one value in `count` registers, starting at `at`.
 pub fn fill(regs: &mut [u8; 256], at: usize, count: usize, x: u8)
     requires { ⌜ at + count ≤ 256 ⌝ }
     ensures { λ r. ⌜ now (regs .exit) ≡ sets (now (regs .entry)) at (replicate count x) ⌝ }
@@ -114,7 +114,7 @@ pub fn fill(regs: &mut [u8; 256], at: usize, count: usize, x: u8)
     }
 }
 
-// Bytes stored from a place on.
+// Stores bytes, starting at `at`.
 pub fn put_bytes(regs: &mut [u8; 256], at: usize, xs: &[u8])
     requires { ⌜ at + length (now xs) ≤ 256 ⌝ }
     ensures { λ r. ⌜ now (regs .exit) ≡ sets (now (regs .entry)) at (now (xs .entry)) ⌝ }

@@ -1,4 +1,4 @@
-// A state is sound if .. (document 01, "Who causes which number"), part by part. The tests are joined without branches,
+// When a state is sound (document 01, "Who causes which number"), part by part. The tests are joined without branches,
 // in the order of the definitions.
 ghost use mathlib.Core.Path.{_≡_};
 ghost use Rattle.rules.specs.Sound.{settingsSound, sourcesSound, countersSound, outputsZero, runSound, fallbackSound, sound};
@@ -43,7 +43,7 @@ fn settings_sound(a: Agent) -> bool
         & (a.regs[TYP] == 0x82)
 }
 
-// The recorded are at most 8, distinct, none FFFFFFh, and none exactly when the SID is FFFFFFh.
+// At most 8 are recorded, all distinct, each below FFFFFFh; nobody is recorded exactly when the SID is FFFFFFh.
 fn sources_sound(a: Agent) -> bool
     ensures { λ r. ⌜ r ≡ sourcesSound a ⌝ }
 {
@@ -51,7 +51,7 @@ fn sources_sound(a: Agent) -> bool
         return false;
     }
     let n = a.count as usize;
-    // the list alone: to lend the field would copy more of the agent
+    // the list only: borrowing the field would copy more of the agent
     let known = a.known;
     let apart = distinct(&known, n);
     let below = below24(&known, n);
@@ -59,8 +59,8 @@ fn sources_sound(a: Agent) -> bool
     apart & below & ((a.count == 0) == (sid == NOBODY))
 }
 
-// k is at most 64, e at most 254; the last source is a recorded one, or none and then the cycle is unheard; flags have
-// one of their two values.
+// k is at most 64, e at most 254; the last source is recorded, or there is none and the cycle is unheard; heard has one
+// of its two values.
 fn counters_sound(a: Agent) -> bool
     ensures { λ r. ⌜ r ≡ countersSound a ⌝ }
 {
@@ -84,7 +84,7 @@ fn outputs_zero(regs: &[u8; 256]) -> bool
     ok
 }
 
-// Bits 7 and 6 of STATUT are 0; OUT_REP is 55h, s below n × t, q below m × t and a last source is there.
+// In RUN: bits 7 and 6 of STATUT are 0, OUT_REP is 55h, s is below n × t, q below m × t, and there is a last source.
 fn run_sound(a: Agent) -> bool
     ensures { λ r. ⌜ r ≡ runSound a ⌝ }
 {
@@ -98,7 +98,7 @@ fn run_sound(a: Agent) -> bool
         & (a.last != NOBODY)
 }
 
-// Bit 7 of STATUT is 1 and bit 6 is 0; outputs and q are 0.
+// In fallback: bit 7 of STATUT is 1 and bit 6 is 0; outputs and q are 0.
 fn fallback_sound(a: Agent) -> bool
     ensures { λ r. ⌜ r ≡ fallbackSound a ⌝ }
 {

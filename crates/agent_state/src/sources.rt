@@ -50,7 +50,7 @@ pub fn below24(known: &[u32; 8], n: usize) -> bool
     ok
 }
 
-// A sound state records at most 8. Past them the definition reads 0.
+// A sound state records at most 8. For a larger `count` the definition reads 0 past them, and so does this.
 pub fn is_recorded(a: Agent, x: u32) -> bool
     ensures { λ r. ⌜ r ≡ isRecorded a x ⌝ }
 {
@@ -60,7 +60,7 @@ pub fn is_recorded(a: Agent, x: u32) -> bool
     holds(&a.known, 8, x) | (0 == x)
 }
 
-// One more.
+// Records one more.
 pub fn recorded(x: u32, a: Agent) -> Agent
     requires { ⌜ a .count < 8 ⌝ }
     ensures { λ r. ⌜ r ≡ recorded x a ⌝ }

@@ -1,4 +1,4 @@
-// The state beside its registers: the values that its fields can have, by name.
+// The state apart from its registers: values of its fields, by name.
 pub const IN_RUN: u8 = 1;
 
 pub const IN_FALLBACK: u8 = 0;
@@ -7,7 +7,7 @@ pub const IS_HEARD: u8 = 1;
 
 pub const UNHEARD: u8 = 0;
 
-// k: the most requests in a cycle.
+// The most requests taken in a cycle: the largest k.
 pub const MOST_TAKEN: u8 = 64;
 
 // No source, and no SID.

@@ -23,7 +23,7 @@ fn more_silence(s: u16) -> u16
     if s < SILENCE_END { s + 1 } else { SILENCE_END }
 }
 
-// q counts in RUN.
+// q counts in RUN only.
 fn more_idle(mode: u8, q: u16) -> u16
     requires { ⌜ q < 65535 ⌝ }
     ensures { λ r. ⌜ r ≡ choose (eqb mode inRun) (q + 1) q ⌝ }
@@ -45,14 +45,14 @@ fn count(a: Agent) -> Agent
     next
 }
 
-// s at least n × t.
+// s is at least n × t.
 fn at_sync_limit(a: Agent) -> bool
     ensures { λ r. ⌜ r ≡ syncLimit a ⌝ }
 {
     product(a.regs[CNF_CYC], a.regs[TCYC]) <= a.silence
 }
 
-// q at least m × t in RUN.
+// In RUN, q is at least m × t.
 fn at_command_limit(a: Agent) -> bool
     ensures { λ r. ⌜ r ≡ commandLimit a ⌝ }
 {
@@ -60,7 +60,7 @@ fn at_command_limit(a: Agent) -> bool
     (a.mode == IN_RUN) & (most <= a.idle)
 }
 
-// Fallback at the one limit, in either mode, or else at the other.
+// Fallback at the sync limit, in either mode, or else at the command limit.
 fn limit(a: Agent) -> Agent
     ensures { λ r. ⌜ r ≡ limited a ⌝ }
 {
@@ -73,7 +73,7 @@ fn limit(a: Agent) -> Agent
     a
 }
 
-// If e is at least t: the next cycle, unheard.
+// If e is at least t, the next cycle begins, unheard.
 fn end_cycle(a: Agent) -> Agent
     ensures { λ r. ⌜ r ≡ cycleEnded a ⌝ }
 {

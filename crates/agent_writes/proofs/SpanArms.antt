@@ -1,4 +1,4 @@
--- What the last arm of the `match` on a span leaves: each of the spans that it stands for. Assumes nothing.
+-- The last arm of the `match` on a span, for each of the spans that it stands for. Assumes nothing.
 use mathlib.Core.Path.{_≡_, refl}
 use mathlib.Core.List.{List, [], _∷_}
 use Prim.Native.Nat.{ℕ}

@@ -1,4 +1,4 @@
--- Writes: the span of each register, and where an allowed write stays. Assumes nothing.
+-- Writes: the span of each register, and that an allowed write stays within the registers. Assumes nothing.
 use mathlib.Core.Path.{_≡_, refl, sym, ap, _∙_}
 use mathlib.Core.Bool.{true, _&&_}
 use mathlib.Core.List.{List}

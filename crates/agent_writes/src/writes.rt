@@ -1,4 +1,4 @@
-// Write: which spans, in which mode, with which values, and to what effect.
+// Write: which spans, in which mode, with which values, and with what effect.
 ghost use mathlib.Core.Path.{_≡_};
 ghost use Prim.Native.Nat.{_+_, _<_, _≤_};
 ghost use lib.ListN.{length, getD};
@@ -36,7 +36,7 @@ fn span_at(add: u8) -> Span
     }
 }
 
-// The register behind it.
+// The register after the span's last.
 fn span_end(span: Span) -> usize
     ensures { λ r. ⌜ r ≡ spanEnd span ⌝ }
 {
@@ -65,7 +65,7 @@ fn span_of(add: u8, n: usize) -> Span
     Span::Outside
 }
 
-// The first byte; 0 for none.
+// The first byte; 0 if there is none.
 fn first(xs: &[u8]) -> u8
     ensures { λ r. ⌜ r ≡ getD (now (xs .entry)) 0 0 ⌝ }
 {
@@ -75,7 +75,7 @@ fn first(xs: &[u8]) -> u8
     xs[0]
 }
 
-// A register after bytes are stored.
+// The value of register `at` once `xs` is stored from register `add`.
 fn register_after(regs: &[u8; 256], add: usize, xs: &[u8], at: usize) -> u8
     requires { ⌜ (at < 256) × (length (now regs) ≡ 256) ⌝ }
     ensures { λ r. ⌜ r ≡ getD (sets (now (regs .entry)) add (now (xs .entry))) at 0 ⌝ }
@@ -89,7 +89,7 @@ fn register_after(regs: &[u8; 256], add: usize, xs: &[u8], at: usize) -> u8
     regs[at]
 }
 
-// Of 1Ah to 1Dh the first two must not become 0.
+// Only in fallback; of 1Ah to 1Dh the first two must not become 0.
 fn limits_stay(a: Agent, add: u8, xs: &[u8]) -> bool
     ensures { λ r. ⌜ r ≡ allowed Limits a add (now (xs .entry)) ⌝ }
 {
@@ -99,7 +99,7 @@ fn limits_stay(a: Agent, add: u8, xs: &[u8]) -> bool
     !(a.mode == IN_RUN) & !(rep == 0) & !(cyc == 0)
 }
 
-// 17h takes 55h or AAh; 18h not 0; 18h and 1Ah to 1Dh only in fallback, 80h to BFh only in RUN.
+// 17h must become 55h or AAh, 18h not 0; 18h and 1Ah to 1Dh only in fallback, 80h to BFh only in RUN.
 fn allowed(span: Span, a: Agent, add: u8, xs: &[u8]) -> bool
     ensures { λ r. ⌜ r ≡ allowed span a add (now (xs .entry)) ⌝ }
 {
@@ -115,7 +115,7 @@ fn allowed(span: Span, a: Agent, add: u8, xs: &[u8]) -> bool
     }
 }
 
-// The bytes stored from a register on.
+// Stores the bytes, starting at register `add`.
 fn store_all(add: u8, xs: &[u8], a: Agent) -> Agent
     requires { ⌜ add + length (now xs) ≤ 256 ⌝ }
     ensures { λ r. ⌜ r ≡ storeAll add (now (xs .entry)) a ⌝ }

@@ -1,4 +1,4 @@
--- Tests: what is chosen by one, and what follows of tests joined. Assumes nothing.
+-- Tests: what is chosen by one, and what follows from joined tests. Assumes nothing.
 use mathlib.Core.Path.{_≡_, refl}
 use mathlib.Core.Bool.{Bool, true, false, _&&_, _||_}
 use Prim.Native.Nat.{ℕ}

@@ -1,4 +1,4 @@
--- Tests, and the facts that they say: not 0, one of two, two tests alike. Assumes nothing.
+-- Tests, and the facts that they stand for: not 0, one of two, two tests alike. Assumes nothing.
 use mathlib.Core.Path.{_≡_, refl, ap}
 use mathlib.Core.Bool.{Bool, true, false, not, _||_, Bool·beq}
 use mathlib.Core.Logic.{_⊎_, inl, inr, ⊎-elim}

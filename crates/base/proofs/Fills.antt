@@ -1,5 +1,5 @@
--- Runs of stores that a loop makes from the first on: what is left of the run, stored at the present place, gives the
--- whole. Assumes nothing.
+-- Runs of stores that a loop makes from the first to the last: what is left of the run, stored at the current index,
+-- completes it. Assumes nothing.
 use mathlib.Core.Path.{_≡_, sym, ap, _∙_}
 use mathlib.Core.List.{List, _∷_}
 use Prim.Native.Nat.{ℕ, suc, _+_, _-_, _≤_, _<_}

@@ -1,4 +1,4 @@
--- Four and six tests joined: all hold where the whole does, and the other way. Assumes nothing.
+-- Four and six tests joined: all hold if the whole does, and the other way round. Assumes nothing.
 use mathlib.Core.Path.{_≡_}
 use mathlib.Core.Bool.{Bool, true, _&&_}
 use Rattle.base.proofs.Choosing.{and-left, and-right, and-true}

@@ -1,5 +1,5 @@
--- Two lists that agree outside a span, from lo up to hi: what a run of stores inside the span leaves. At numerals the
--- test that a place is outside computes. Assumes nothing.
+-- Two lists that agree outside a span, from lo up to hi: what a run of stores inside the span leaves as it was. For
+-- numerals, antt computes the test that an index is outside. Assumes nothing.
 use mathlib.Core.Path.{_≡_}
 use mathlib.Core.Bool.{Bool, true, false, _||_}
 use mathlib.Core.List.{List}

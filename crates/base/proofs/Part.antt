@@ -1,4 +1,5 @@
--- A part of a buffer from a place to its end that is lent, written from its start on, and comes back: the same writes in the whole. Assumes nothing.
+-- A part of a buffer, from an index to the end, is lent, written from its start, and comes back: the same as writing to
+-- the whole buffer. Assumes nothing.
 use mathlib.Core.Path.{_≡_, sym, ap, ap₂, _∙_}
 use mathlib.Core.List.{List, [], _∷_, _++_, append-nil}
 use Prim.Native.Nat.{ℕ, suc, _+_, _-_, _≤_}

@@ -1,4 +1,4 @@
--- Runs of stores, one behind the other, and what they leave. Assumes nothing.
+-- Runs of stores, one after another, and what they leave. Assumes nothing.
 use mathlib.Core.Path.{_≡_, sym, ap, _∙_}
 use mathlib.Core.List.{List, [], _∷_, _++_}
 use Prim.Native.Nat.{ℕ, suc, _+_, _≤_}

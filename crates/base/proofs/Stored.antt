@@ -1,5 +1,5 @@
--- What stands in a list after a run of stores: before it, in it, behind it. In the run the list may end before the run
--- does. Assumes nothing.
+-- What a list holds after a run of stores: before the run, in it, and after it. The list may end within the run.
+-- Assumes nothing.
 use mathlib.Core.Path.{_≡_, refl, sym, ap, _∙_}
 use mathlib.Core.List.{List, [], _∷_}
 use Prim.Native.Nat.{ℕ, zero, suc, _+_, _-_, _≤_, _<_}

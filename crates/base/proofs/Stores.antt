@@ -1,4 +1,4 @@
--- Stores that fill a part of a list one after the other, as loops make them. Assumes nothing.
+-- Stores that fill a part of a list one after another, as loops make them. Assumes nothing.
 use mathlib.Core.Path.{_≡_, sym, ap, ap₂, _∙_}
 use mathlib.Core.List.{List, [], _∷_, _++_}
 use Prim.Native.Nat.{ℕ, suc, _+_, _/_, _%_, _≤_, _<_}

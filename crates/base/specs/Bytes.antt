@@ -12,7 +12,7 @@ unfoldable pub bytesOf : ℕ → ℕ → List ℕ
 bytesOf zero n = []
 bytesOf (suc w) n = bytesOf w (n / 256) ++ (n % 256 ∷ [])
 
--- the number that the w bytes from a place on say; a byte past the end is 0
+-- the number in the w bytes starting at index i; a byte past the end counts as 0
 unfoldable pub numberAt : List ℕ → ℕ → ℕ → ℕ
 numberAt s i zero = 0
 numberAt s i (suc w) = numberAt s i w * 256 + getD s (i + w) 0

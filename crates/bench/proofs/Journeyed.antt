@@ -1,4 +1,5 @@
--- The rules are not empty: RUN is reached, an output is written, silence ends it at the very tick. Assumes nothing.
+-- The rules are not empty: RUN is reached, an output is written, and silence ends RUN at exactly the tick it should.
+-- Assumes nothing.
 use mathlib.Core.List.{List, [], _∷_}
 use mathlib.Core.Path.{_≡_, refl, ap, _∙_}
 use native.Mathlib.Omega.{arith}

@@ -1,4 +1,4 @@
--- P8: ticks from power-up, whatever MAC, IID and VER. A law over the count of ticks, so that none is computed.
+-- P8: ticks from power-up, whatever MAC, IID and VER. A law over the number of ticks, so that none has to be computed.
 -- Assumes nothing.
 use mathlib.Core.Path.{_≡_, refl, ap, _∙_}
 use Prim.Native.Nat.{ℕ, zero, suc, _+_, _%_}

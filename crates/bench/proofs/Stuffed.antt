@@ -1,4 +1,4 @@
--- P5 and P6: an escape followed by 31h, or by nothing, is wrong wherever it stands. Assumes nothing.
+-- P5 and P6: an escape followed by 31h, or by nothing, is wrong wherever it is. Assumes nothing.
 use mathlib.Core.Bool.{Bool, true, false}
 use mathlib.Core.List.{List, [], _∷_, _++_}
 use mathlib.Core.Option.{Option, none}

@@ -27,7 +27,7 @@ concentrator = 0x000007
 
 -- ---- calls
 
--- a frame with its data comes on a port for an address; the reply buffer has just room enough
+-- a frame with its data comes on a port for an address; the reply buffer has the minimum length
 abbrev pub comesOn : (port addr : ℕ) → Frame → List ℕ → Call
 comesOn port addr f xs = frame port (bodyOf addr (appOf f xs)) leastRoom
 

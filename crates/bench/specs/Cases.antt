@@ -27,7 +27,7 @@ prelude b c = assigns ∷ syncs b ∷ writesTo b 0 tcyc (0x0A ∷ []) ∷ writes
 abbrev pub afterPrelude : ℕ → ℕ → Agent
 afterPrelude b c = after (prelude b c) module1
 
--- in RUN, t 10, n 2, m 5, the cycle heard, with a CYC, and e ms gone of it
+-- in RUN with t 10, n 2 and m 5, in a heard cycle with CYC c, e ms of it gone
 pub record InRun (c e : ℕ) (a : Agent) : Type 0 where
   pub sound-is : sound a ≡ true
   pub run : a .mode ≡ inRun
@@ -38,12 +38,12 @@ pub record InRun (c e : ℕ) (a : Agent) : Type 0 where
   pub cyc : a .cycle ≡ c
   pub e-is : a .elapsed ≡ e
 
--- ten ticks and a sync with the next CYC, so many times
+-- n times ten ticks and a sync with the next CYC
 abbrev pub onTime : ℕ → ℕ → List Call
 onTime zero c = []
 onTime (suc n) c = silent 10 ++ (syncs (suc c) ∷ onTime n (suc c))
 
--- reads of one register, from the k-th request of a cycle with CYC 05h on, so many
+-- n reads of one register in a cycle with CYC 05h, after k other requests
 abbrev pub asked : ℕ → ℕ → List Call
 asked zero k = []
 asked (suc n) k = asksFor 0x05 k 1 typAt ∷ asked n (suc k)

@@ -6,7 +6,7 @@ use Rattle.rules.specs.Calls.{Call}
 use Rattle.rules.specs.Registers.{outRep, outputsAt}
 use Rattle.bench.specs.BusCalls.{ownSid, ownTid, concentrator, comesOn, assigns, syncs, seqOf}
 
--- the two writes come on the other port
+-- the two writes come on port 2, all else on port 1
 abbrev pub opening : List Call
 opening =
     assigns

@@ -1,4 +1,5 @@
--- Both polynomials of the bus have a constant term and an even number of terms, so both CRCs see what such CRCs see. Assumes nothing.
+-- Both polynomials of the bus have a constant term and an even number of terms, so both CRCs detect what such CRCs
+-- detect. Assumes nothing.
 use mathlib.Core.Path.{refl}
 use lib.Count.{ones, onesIn}
 use lib.Dec.{lit<}

@@ -1,5 +1,6 @@
--- A burst of at most 16 bits is seen, for every polynomial whose constant term is 1. The bits before it bring both registers to the same
--- value, the 16 bits then lead to the same register only where they are the same, and the bits after it lose nothing. Assumes nothing.
+-- A burst of at most 16 bits is detected, for every polynomial whose constant term is 1. The bits before it bring both
+-- registers to the same value, the 16 bits then lead to the same register only if they are the same, and the bits after
+-- it lose nothing. Assumes nothing.
 use mathlib.Core.Path.{_≡_, sym, ap, ap₂, _∙_}
 use mathlib.Core.List.{List, _++_}
 use Prim.Native.Nat.{ℕ, _+_, _-_, _^_, _<_, min}

@@ -1,4 +1,4 @@
--- Where it ends, by counterexample: a longer burst, other polynomials, two flipped bits. Assumes nothing.
+-- Where detection ends, by counterexample: a longer burst, other polynomials, two flipped bits. Assumes nothing.
 use mathlib.Core.Path.{_≡_, refl, sym, ap, _∙_}
 use mathlib.Core.List.{List, [], _∷_, _++_}
 use Prim.Native.Nat.{ℕ, _+_}

@@ -1,4 +1,4 @@
--- A body that is read ends with its right FCS, so damage that the CRC sees is refused. Assumes nothing.
+-- A body that is read ends with the right FCS, so damage that the CRC detects is refused. Assumes nothing.
 use mathlib.Core.Path.{_≡_, refl, sym, ap, _∙_}
 use mathlib.Core.List.{List, [], _∷_, _++_}
 use mathlib.Core.Option.{Option·some-injective}

@@ -1,5 +1,5 @@
--- An odd number of flipped bits is seen, for every polynomial of an even number of terms: it changes whether the CRC's ones are even in
--- number. Assumes nothing.
+-- An odd number of flipped bits is detected, for every polynomial with an even number of terms: it changes whether the
+-- CRC has an even number of ones. Assumes nothing.
 use mathlib.Core.Path.{_≡_, refl, sym, ap, _∙_}
 use mathlib.Core.List.{List, [], _∷_}
 use Prim.Native.Nat.{ℕ, _+_, _%_, _^_, _<_}

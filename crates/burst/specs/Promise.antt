@@ -1,6 +1,7 @@
--- What a CRC of 16 bits sees of damage, for every polynomial of a kind and so for the two of the bus; and where that ends.
--- What the FCS sees of a body that was read is stated in OnTheLine; of the safety CRC only what stands here, on the bytes it covers.
--- Damage that makes or breaks a 7Dh or 7Eh on the line changes the length of what is read, and is not covered. Assumes nothing.
+-- Which damage a 16-bit CRC detects, for every polynomial of a kind and so for the two of the bus; and where that ends.
+-- OnTheLine states what this means for the FCS of a body on the line; for the safety CRC there is only what is stated
+-- here, about the bytes it covers. Damage that makes or breaks a 7Dh or 7Eh on the line changes the length of what is
+-- read, and is not covered. Assumes nothing.
 use mathlib.Core.Path.{_≡_}
 use mathlib.Core.List.{List, [], _∷_, _++_}
 use Prim.Native.Nat.{ℕ, _+_, _*_, _%_, _^_, _<_}
@@ -11,21 +12,21 @@ use Rattle.crc.specs.Crc.{crcFrom, crcOf}
 use Rattle.crc.specs.declared.Poly.{Poly}
 use Rattle.burst.specs.Damage.{Burst, flips}
 
--- the longest burst that is always seen, in bits
+-- the longest burst that is always detected, in bits
 abbrev pub longest : ℕ
 longest = 16
 
--- a polynomial of degree 16, its top term left out, whose constant term is 1
+-- a polynomial of degree 16, written without its top term, whose constant term is 1
 pub record WithConstant (p : ℕ) : Type 0 where
   pub terms : p < 2 ^ 16
   pub odd : p % 2 ≡ 1
 
--- a polynomial of degree 16, its top term left out, whose terms, the top one counted, are even in number
+-- a polynomial of degree 16, written without its top term, with an even number of terms, the top one included
 pub record EvenTerms (p : ℕ) : Type 0 where
   pub terms : p < 2 ^ 16
   pub even : (1 + ones p) % 2 ≡ 0
 
--- bytes that end with their right CRC: the last two are the CRC of those before them, high byte first
+-- bytes that end with the right CRC: the last two are the CRC of those before them, high byte first
 pub record Checked (crc : List ℕ → ℕ) (bytes : List ℕ) : Type 0 where
   pub covered : List ℕ
   pub high : ℕ
@@ -33,18 +34,18 @@ pub record Checked (crc : List ℕ → ℕ) (bytes : List ℕ) : Type 0 where
   pub made : bytes ≡ covered ++ high ∷ low ∷ []
   pub right : crc covered ≡ high * 256 + low
 
--- A burst is seen: only where nothing was changed is the CRC of the bytes the same, and only there is the CRC right that stands behind
--- them, the burst lying anywhere in both.
+-- A burst is detected: the CRC of the bytes stays the same only if nothing was changed; and bytes that end with the
+-- right CRC still do so only if nothing was changed, wherever in them the burst lies.
 pub record SeesBursts (crc : List ℕ → ℕ) : Type 0 where
   pub in-bytes : (i : ℕ) (sent got : List ℕ) → Bytes sent → Bytes got → Burst longest i sent got → crc sent ≡ crc got → sent ≡ got
   pub in-frame : (i : ℕ) (sent got : List ℕ) → Bytes sent → Bytes got → Burst longest i sent got → Checked crc sent → Checked crc got → sent ≡ got
 
--- An odd number of flipped bits is seen, wherever they stand.
+-- An odd number of flipped bits is detected, wherever they are.
 pub record SeesOdd (crc : List ℕ → ℕ) : Type 0 where
   pub in-bytes : (sent got : List ℕ) → Bytes sent → Bytes got → length sent ≡ length got → flips sent got % 2 ≡ 1 → crc sent ≡ crc got → ⊥
   pub in-frame : (sent got : List ℕ) → Bytes sent → Bytes got → length sent ≡ length got → flips sent got % 2 ≡ 1 → Checked crc sent → Checked crc got → ⊥
 
--- a burst of w bits that a CRC does not see
+-- a burst of w bits that a CRC does not detect
 pub record Missed (w : ℕ) (crc : List ℕ → ℕ) : Type 0 where
   pub i : ℕ
   pub sent : List ℕ
@@ -53,7 +54,8 @@ pub record Missed (w : ℕ) (crc : List ℕ → ℕ) : Type 0 where
   pub changed : sent ≡ got → ⊥
   pub same : crc sent ≡ crc got
 
--- All that is promised: of every such polynomial, from any register, and of the two CRCs of the bus; of these, no longer burst.
+-- All that is promised: for every such polynomial, from any register, and for the two CRCs of the bus; and that each of
+-- these two misses some burst that is one bit longer.
 pub record Promised : Type 0 where
   pub bursts : (p c : ℕ) → WithConstant p → c < 2 ^ 16 → SeesBursts (crcFrom p c)
   pub odd : (p c : ℕ) → EvenTerms p → c < 2 ^ 16 → SeesOdd (crcFrom p c)

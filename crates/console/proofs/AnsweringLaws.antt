@@ -1,5 +1,5 @@
--- THE WHOLE: wherever the input is cut into blocks, and wherever the text is handed on, what a program says to the lines is the transcript
--- of the input. Before the first line, one line more, the end. Assumes nothing.
+-- THE WHOLE: wherever the input is cut into blocks, and wherever the text is handed on, what a program says is the
+-- transcript of the input. Before the first line, one more line, the end. Assumes nothing.
 use mathlib.Core.Path.{_≡_, refl, sym, ap, ap₂, _∙_}
 use mathlib.Core.Bool.{Bool, true, false, _||_}
 use mathlib.Core.List.{List, [], _∷_, _++_, append-assoc, append-nil}

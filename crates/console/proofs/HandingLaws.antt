@@ -1,4 +1,4 @@
--- Laws of text handed on, and of the first of a list. Assumes nothing.
+-- Laws of text handed on, and of the first elements of a list. Assumes nothing.
 use mathlib.Core.Path.{_≡_, refl, sym, ap, _∙_}
 use mathlib.Core.List.{List, [], _++_, append-assoc, append-nil}
 use Prim.Native.Nat.{ℕ, _+_, _≤_, _<_}

@@ -1,4 +1,5 @@
--- A buffer that keeps the first characters of a line: none, more, one that it holds whole and one that is longer. Assumes nothing.
+-- A buffer that keeps the first characters of a line: none yet, more of them, a line that it holds whole, and a longer
+-- one. Assumes nothing.
 use mathlib.Core.Path.{_≡_, refl, sym, ap, ap₂, _∙_}
 use mathlib.Core.Bool.{Bool, true, false}
 use mathlib.Core.List.{List, [], _∷_, _++_}

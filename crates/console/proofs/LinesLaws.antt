@@ -1,4 +1,4 @@
--- Laws of lines: characters with no LF are one line, and the blocks of an input one behind the other. Assumes nothing.
+-- Laws of lines: characters with no LF are one line; and the blocks of an input, one after another. Assumes nothing.
 use mathlib.Core.Path.{_≡_, refl, sym, ap, _∙_}
 use mathlib.Core.Bool.{Bool, true, false}
 use mathlib.Core.List.{List, [], _∷_, _++_, append-assoc, append-nil}

@@ -1,4 +1,4 @@
--- Laws of a line that is read: none of it yet, a further block, the rest of a block. Assumes nothing.
+-- Laws of a line that is being read: none of it yet, another block, the rest of a block. Assumes nothing.
 use mathlib.Core.Path.{_≡_, refl, sym, ap, ap₂, _∙_}
 use mathlib.Core.Bool.{Bool, true, false, _&&_, _||_, not}
 use mathlib.Core.List.{List, [], _∷_, _++_, append-assoc, append-nil}

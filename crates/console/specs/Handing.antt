@@ -1,4 +1,4 @@
--- Text that is handed on from the start of the output, so that there is room for one more. Assumes nothing.
+-- Text that is handed on from the start of the output, so that there is room for one more text. Assumes nothing.
 use mathlib.Core.Path.{_≡_}
 use mathlib.Core.List.{List, _++_}
 use Prim.Native.Nat.{ℕ, _+_, _≤_}
@@ -6,7 +6,7 @@ use lib.ListN.{length, take}
 use Rattle.console.specs.declared.blocks.Place.{Place}
 use Rattle.console.specs.declared.blocks.Place.the-variants.{At, Closed}
 
--- what was handed on, and in front of the place what still stands
+-- `text` was handed on, and what is still in the output comes before `place`
 pub record Handed (out : List ℕ) (to place : ℕ) : Type 0 where
   pub room : place + 2048 ≤ length out
   pub text : List ℕ

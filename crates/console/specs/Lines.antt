@@ -19,7 +19,7 @@ abbrev pub Free : List ℕ → Type 0
 Free [] = Unit
 Free (c ∷ cs) = (c ≡ 0x0A → ⊥) × Free cs
 
--- blocks, one behind the other
+-- blocks, one after another
 abbrev pub joined : List (List ℕ) → List ℕ
 joined [] = []
 joined (b ∷ bs) = b ++ joined bs

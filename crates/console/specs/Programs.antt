@@ -3,7 +3,8 @@ use mathlib.Core.List.{List, [], _∷_, _++_}
 use Prim.Native.Nat.{ℕ}
 use Rattle.console.specs.Lines.{linesOf}
 
--- what it holds before the first line and says there, what a line makes of what it holds, what is said to a line, and what at the end
+-- what it holds and says before the first line, what a line makes of what it holds, what it says to a line, and what it
+-- says at the end
 pub record Program (S : Type 0) : Type 0 where
   pub start : S
   pub first : List ℕ

@@ -1,4 +1,4 @@
--- What the code has read of its input: the bytes of blocks, up to a line's end or the input's. Assumes nothing.
+-- What the code has read of its input: the bytes of blocks, up to the end of a line or of the input. Assumes nothing.
 use mathlib.Core.Path.{_≡_}
 use mathlib.Core.Bool.{Bool, true, false}
 use mathlib.Core.List.{List, [], _∷_, _++_}
@@ -18,12 +18,12 @@ block c buffer = take (c .end) buffer
 abbrev pub rest : Cursor → List ℕ → List ℕ
 rest c buffer = drop (c .at) (block c buffer)
 
--- the last of some blocks, which come behind another
+-- the last of the block b and the blocks after it
 abbrev pub last : List ℕ → List (List ℕ) → List ℕ
 last b [] = b
 last b (c ∷ bs) = last c bs
 
--- a buffer keeps the first characters of a line, as many as it has room for, and their count as it is told
+-- a buffer keeps the first characters of a line, as many as it has room for; the count is that of `toldCount`
 pub record Holds (line : List ℕ) (len : ℕ) (chars : List ℕ) : Type 0 where
   pub base : List ℕ
   pub kept : line ≡ sets base 0 chars
@@ -33,14 +33,14 @@ abbrev pub some : List ℕ → Bool
 some [] = false
 some (c ∷ cs) = true
 
--- what stands between a line and the rest: the LF of a whole line, where the input goes on
+-- what comes between a line and the rest: the LF of a whole line, unless the input has ended
 abbrev pub between : Bool → Bool → List ℕ
 between true false = 0x0A ∷ []
 between true true = []
 between false ended = []
 
--- The characters of a line so far, from what was left of a block: all bytes of the further blocks are among them, the line's end or
--- still left. Where the input has ended nothing is left, and the line is whole if it has characters.
+-- The characters of a line so far. All bytes, of what was left of a block and of the blocks after it, are among them,
+-- or are the line's end, or are still left. If the input has ended nothing is left, and the line is whole if it has characters.
 pub record Goes (old left : List ℕ) (over : Bool) (buffer line : List ℕ) (c : Cursor) : Type 0 where
   pub more : List (List ℕ)
   pub chars : List ℕ
@@ -51,7 +51,7 @@ pub record Goes (old left : List ℕ) (over : Bool) (buffer line : List ℕ) (c 
   pub done : c .ended ≡ true → (c .whole ≡ some chars) × (over ≡ false → rest c buffer ≡ [])
   pub stays : over ≡ true → (more ≡ []) × (c .ended ≡ true)
 
--- a block more was read, of some length
+-- another block was read, of some length
 pub record Filled (c r : Cursor) : Type 0 where
   pub count : ℕ
   pub is : r ≡ filled c count

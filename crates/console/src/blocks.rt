@@ -10,17 +10,17 @@ use libc::STDIN_FILENO;
 use libc::STDOUT_FILENO;
 use text::putting::put_text;
 
-// Room for the longest text that a program says to one line.
+// Room for the longest text that a program prints for one line.
 pub const MOST: usize = 2048;
 
-// The text of many lines before it is written.
+// An empty buffer for the text of many lines, before it is written.
 pub fn no_output() -> [u8; 16384]
     ensures { λ r. ⌜ 16384 ≡ length r ⌝ }
 {
     [0; 16384]
 }
 
-// The next block of the input, at the start of a buffer; its length, none at the end.
+// Reads the next block of the input to the start of a buffer; returns its length, 0 at the end of the input.
 pub fn read_block(block: &mut [u8]) -> usize
     ensures { λ r. ⌜ Counts r (now (block .exit)) ⌝ }
 {
@@ -28,7 +28,7 @@ pub fn read_block(block: &mut [u8]) -> usize
     io::count(got, block)
 }
 
-// So many bytes from the start of the output, written; whether they were.
+// Writes the first `n` bytes of the output; returns whether they were written.
 pub fn write_first(out: &[u8], n: usize) -> bool {
     if out.len() < n {
         return false;
@@ -36,7 +36,7 @@ pub fn write_first(out: &[u8], n: usize) -> bool {
     io::write_all(STDOUT_FILENO, &out[..n])
 }
 
-// So many of the bytes of a slice, or all that there are.
+// How many bytes a slice of `len` can give when `n` are asked for.
 pub fn least(len: usize, n: usize) -> usize
     ensures { λ r. ⌜ (r ≤ len) × ((s : List ℕ) → length s ≡ len → take r s ≡ take n s) ⌝ }
 {
@@ -46,7 +46,7 @@ pub fn least(len: usize, n: usize) -> usize
     n
 }
 
-// The first bytes of a text, put at a place of the output: whole, or not at all where there is no room.
+// Puts the first `n` bytes of a text at index `at` of the output: all of them, or none if there is no room.
 pub fn put_first(out: &mut [u8], at: usize, text: &[u8], n: usize) -> usize
     ensures { λ r. ⌜ (r ≡ placeAfter (length (now (out .entry))) at (take n (now (text .entry)))) × (now (out .exit) ≡ putAt (now (out .entry)) at (take n (now (text .entry)))) ⌝ }
 {
@@ -54,13 +54,13 @@ pub fn put_first(out: &mut [u8], at: usize, text: &[u8], n: usize) -> usize
     put_text(out, at, &text[..k])
 }
 
-// The place of the next text, or that the output is closed.
+// Where the next text goes, or that the output is closed.
 pub enum Place {
     At(usize),
     Closed,
 }
 
-// Room for one more text behind a place: where it is short, what stands is written first.
+// Makes room for one more text from index `to`; if there is too little, what is in the output is written first.
 pub fn make_room(out: &[u8], to: usize) -> Place
     ensures { λ r. ⌜ Placed (now (out .entry)) to r ⌝ }
 {

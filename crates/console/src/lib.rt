@@ -1,4 +1,4 @@
-// What stands between a program that answers lines and its standard input and output: blocks read, lines handed out one by
-// one, text written.
+// What lies between a program that answers lines and its standard input and output: it reads blocks, hands out lines
+// one by one, and writes text.
 pub mod blocks;
 pub mod lines;

@@ -1,4 +1,4 @@
-// The lines of standard input, one after the other, wherever the input is cut into blocks.
+// The lines of standard input, one after another, wherever the input is cut into blocks.
 ghost use mathlib.Core.Path.{_≡_};
 ghost use lib.ListN.{length};
 ghost use lib.Seq.{sets};
@@ -14,8 +14,8 @@ use crate::blocks::Place;
 use text::lines;
 use text::lines::LineEnd;
 
-// Where a program stands in its input and output: the place in the block, how much of the block was read, the characters of the
-// line, the place in the output; whether a whole line stands, and whether the input has ended.
+// How far a program is in its input and output: the index in the block, the length of the block, the count of the
+// line's characters, the index in the output; whether there is a whole line, and whether the input has ended.
 pub struct Cursor {
     pub at: usize,
     pub end: usize,
@@ -25,7 +25,7 @@ pub struct Cursor {
     pub ended: bool,
 }
 
-// Before the first block, with so much text in the output.
+// Before the first block, with `to` bytes of text in the output.
 pub fn begin(to: usize) -> Cursor
     ensures { λ r. ⌜ r ≡ began to ⌝ }
 {
@@ -39,7 +39,7 @@ pub fn begin(to: usize) -> Cursor
     }
 }
 
-// Before the next line, whose text goes to a place.
+// Before the next line, whose text goes to index `to`.
 fn placed(c: Cursor, to: usize) -> Cursor
     ensures { λ r. ⌜ r ≡ Cursors·placed c to ⌝ }
 {
@@ -53,7 +53,7 @@ fn placed(c: Cursor, to: usize) -> Cursor
     }
 }
 
-// Nothing more is handed out, and nothing stands to be written.
+// No more lines are handed out, and no text is left to be written.
 fn stopped(c: Cursor) -> Cursor
     ensures { λ r. ⌜ r ≡ Cursors·stopped c ⌝ }
 {
@@ -67,7 +67,8 @@ fn stopped(c: Cursor) -> Cursor
     }
 }
 
-// A block of so many bytes was read: none at the end, where what stands of a line is the last one. All text was handed on before.
+// A block of `n` bytes was read. With 0 the input has ended, and what there is of a line is the last one. All text was
+// handed on before.
 fn filled(c: Cursor, n: usize) -> Cursor
     ensures { λ r. ⌜ r ≡ Cursors·filled c n ⌝ }
 {
@@ -81,7 +82,7 @@ fn filled(c: Cursor, n: usize) -> Cursor
     }
 }
 
-// A further block.
+// Reads another block.
 fn fill(block: &mut [u8; 65536], c: Cursor) -> Cursor
     ensures { λ r. ⌜ Filled c r ⌝ }
 {
@@ -113,7 +114,7 @@ fn part(c: Cursor, at_end: LineEnd) -> Cursor
     }
 }
 
-// The rest of a line, or as much as the block has of it.
+// Reads the rest of a line, or as much of it as the block has.
 fn take_part(block: &[u8], line: &mut [u8; 1200], c: Cursor) -> Cursor
     ensures { λ r. ⌜ (r ≡ Cursors·part c (lineEndOf (Reading·block c (now (block .entry))) (c .at) (length (now (line .entry))) (c .len))) × (now (line .exit) ≡ sets (now (line .entry)) (c .len) (beforeEnd (rest c (now (block .entry))))) ⌝ }
 {
@@ -128,10 +129,10 @@ fn done(c: Cursor) -> bool
     c.whole | c.ended
 }
 
-// The next line stands whole in its buffer, as far as there is room for it, and there is room for its text in the output; or there is
-// none, and the input has ended; or neither, where the output is closed. Before more input is waited for, the text so far is
-// handed on. A proved loop has to end, and nothing says that the input does: so the loop counts its turns down, from a number that
-// no run uses up.
+// Reads the next line into its buffer, as far as there is room for it, and makes room for its text in the output; or
+// there is no line, and the input has ended; or neither, if the output is closed. Before it waits for more input, the
+// text so far is handed on. A proved loop has to end, and nothing says that the input does: so the loop counts down
+// from a number that no run uses up.
 pub fn next_line(
     block: &mut [u8; 65536],
     line: &mut [u8; 1200],
@@ -162,7 +163,7 @@ pub fn next_line(
     stopped(k)
 }
 
-// The text that still stands in the output, written; whether it was.
+// Writes the text that is still in the output; returns whether it was written.
 pub fn close(out: &[u8; 16384], c: Cursor) -> bool {
     blocks::write_first(out, c.to)
 }

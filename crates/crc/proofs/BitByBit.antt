@@ -1,5 +1,5 @@
--- The CRC of bytes is that of their bits, taken one after the other; and up to 16 bits may be added at once and shifted then. For every
--- polynomial, and what follows where its constant term is 1. Assumes nothing.
+-- The CRC of bytes is that of their bits, one after another; and up to 16 bits may be added at once and then shifted.
+-- For every polynomial, and what follows if its constant term is 1. Assumes nothing.
 use mathlib.Core.Path.{_≡_, refl, sym, ap, _∙_, subst}
 use mathlib.Core.List.{List, [], _∷_, _++_}
 use Prim.Native.Nat.{ℕ, zero, suc, _+_, _-_, _*_, _/_, _%_, _^_, _<_, _≤_}

@@ -1,4 +1,5 @@
--- The register stays below 2^16 where it and the polynomial's terms start there, whatever the list holds. Assumes nothing.
+-- The register stays below 2^16 if it starts there and the polynomial's terms are below it too, whatever the list
+-- holds. Assumes nothing.
 use mathlib.Core.List.{List, [], _∷_}
 use Prim.Native.Nat.{ℕ, zero, suc, _*_, _%_, _^_, _<_}
 use native.Mathlib.Nat.{mod-lt}

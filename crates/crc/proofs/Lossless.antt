@@ -1,5 +1,5 @@
--- Where the polynomial's constant term is 1, a shift loses nothing of the register: from the register after it, the one before it can be told.
--- Assumes nothing.
+-- If the polynomial's constant term is 1, a shift loses nothing of the register: the register before it can be told
+-- from the one after it. Assumes nothing.
 use mathlib.Core.Path.{_≡_, sym, ap, ap₂, _∙_}
 use Prim.Native.Nat.{ℕ, zero, suc, _+_, _*_, _/_, _%_, _^_, _<_}
 use native.Mathlib.Omega.{arith}

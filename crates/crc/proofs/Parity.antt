@@ -1,5 +1,5 @@
--- Where the polynomial's terms are even in number, the top one counted, the CRC has an even number of ones exactly where register and bytes
--- together have. Assumes nothing.
+-- If the polynomial has an even number of terms, the top one included, the CRC has an even number of ones exactly if
+-- register and bytes together have. Assumes nothing.
 use mathlib.Core.Path.{_≡_, refl, sym, ap, _∙_}
 use mathlib.Core.List.{List, [], _∷_}
 use Prim.Native.Nat.{ℕ, zero, suc, _+_, _*_, _%_, _^_, _<_}

@@ -1,4 +1,4 @@
--- A CRC sent behind its bytes, high byte first: the CRC over both is 0, for every polynomial. Assumes nothing.
+-- A CRC sent after its bytes, high byte first: the CRC over both is 0, for every polynomial. Assumes nothing.
 use mathlib.Core.Path.{_≡_, sym, ap, _∙_}
 use mathlib.Core.List.{List, [], _∷_, _++_}
 use Prim.Native.Nat.{ℕ, _+_, _*_, _^_, _<_}

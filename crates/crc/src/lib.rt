@@ -1,9 +1,8 @@
-// The two CRCs of the bus: the frame check sequence (FCS) and the safety CRC. Both start at FFFFh, take the most
+// The two CRCs of the bus: the frame check sequence (FCS) and the safety CRC. Both start at FFFFh, process the most
 // significant bit first and have no final change.
 ghost use mathlib.Core.Path.{_≡_};
 ghost use Rattle.crc.specs.Crc.{polyOf, crcBit, crcByte, crcFrom, crcOf};
 
-// The two polynomials.
 pub enum Poly {
     Fcs,
     Safety,
@@ -12,7 +11,7 @@ pub enum Poly {
 // The register before the first byte.
 pub const START: u16 = 0xFFFF;
 
-// A polynomial's terms below the sixteenth.
+// A polynomial's terms of degree below 16.
 fn terms(poly: Poly) -> u16
     ensures { λ r. ⌜ r ≡ polyOf poly ⌝ }
 {
@@ -22,7 +21,7 @@ fn terms(poly: Poly) -> u16
     }
 }
 
-// One bit: a shift, and the polynomial added where the top bit fell out.
+// One bit: a shift, and an exclusive or with the polynomial if a one was shifted out.
 fn shift_bit(crc: u16, terms: u16) -> u16
     ensures { λ r. ⌜ r ≡ crcBit terms crc ⌝ }
 {
@@ -33,7 +32,6 @@ fn shift_bit(crc: u16, terms: u16) -> u16
     }
 }
 
-// One byte.
 fn shift_byte(crc: u16, byte: u8, terms: u16) -> u16
     ensures { λ r. ⌜ r ≡ crcByte terms crc byte ⌝ }
 {
@@ -46,7 +44,7 @@ fn shift_byte(crc: u16, byte: u8, terms: u16) -> u16
     c
 }
 
-// The register after the bytes of a slice, from a given register on.
+// The register after the bytes of a slice, starting from a given register.
 pub fn crc_from(poly: Poly, register: u16, s: &[u8]) -> u16
     ensures { λ r. ⌜ r ≡ crcFrom (polyOf poly) register (now (s .entry)) ⌝ }
 {

@@ -1,4 +1,4 @@
--- What a call on a SIL2 module means that brings a safe request: that request, or nothing. Assumes nothing.
+-- What a call that brings a safe request to a SIL2 module means: that request, or nothing. Assumes nothing.
 use mathlib.Core.List.{List}
 use mathlib.Core.Path.{refl, sym, subst}
 use Prim.Native.Nat.{ℕ}

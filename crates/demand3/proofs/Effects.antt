@@ -1,5 +1,5 @@
 -- What a call can do to the parts of the agent that demand 3 is about: one case for each kind of effect. The rules are
--- taken apart once to show that every call is one of these; what stands above looks at nothing else. Assumes nothing.
+-- taken apart once to show that every call is one of these; what builds on it looks at nothing else. Assumes nothing.
 use mathlib.Core.Bool.{Bool, true, false}
 use mathlib.Core.List.{List}
 use mathlib.Core.Path.{_≡_}

@@ -1,5 +1,5 @@
--- The link: what the private counters of the agent have to do with the words of the history. Each part names only the
--- fields that it reads, so that an effect on other fields keeps it. And what the claim says of one call. Assumes nothing.
+-- The link: how the agent's private counters go with the words of the history. Each part names only the fields that it
+-- reads, so that an effect on other fields keeps it. And what the claim says of one call. Assumes nothing.
 use mathlib.Core.Bool.{Bool, true, false}
 use mathlib.Core.List.{List}
 use mathlib.Core.Option.{Option, none, some}

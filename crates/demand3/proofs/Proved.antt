@@ -1,4 +1,4 @@
--- Demand 3 and the sharper statements of every list of calls on a SIL2 module from power-up: each call is a step.
+-- Demand 3 and the sharper statements, for every list of calls on a SIL2 module from power-up: each call is a step.
 -- Assumes nothing.
 use mathlib.Core.List.{List, [], _∷_}
 use mathlib.Core.Path.{_≡_, refl}

@@ -1,4 +1,4 @@
--- A safe request that passes the tests has the number due, and one request more is taken. Assumes nothing.
+-- A safe request that passes the tests has the number due, and one more request is taken. Assumes nothing.
 use mathlib.Core.Bool.{true}
 use mathlib.Core.Path.{_≡_, sym, _∙_, subst}
 use mathlib.Core.List.{List}

@@ -1,5 +1,5 @@
--- The claim's numbers, each beside the rules' own: what the claim calls a release order, an output write, the first SEQ is
--- what the rules make of it. Assumes nothing.
+-- The claim's numbers joined to the rules' own: a release order, an output write and the first SEQ mean the same in
+-- both. Assumes nothing.
 use mathlib.Core.Bool.{Bool, true, false, _&&_}
 use mathlib.Core.List.{List}
 use mathlib.Core.Path.{_≡_, refl, sym, ap, _∙_, subst}

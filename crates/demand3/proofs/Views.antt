@@ -1,5 +1,5 @@
--- What demand 3 looks at of an agent, part by part: what its registers show, the numbering of requests, the clocks. When two
--- views agree, and what a sound state says of its view. Assumes nothing.
+-- What demand 3 looks at in an agent, part by part: what its registers show, the numbering of requests, the clocks.
+-- When two views agree, and what a sound state says of its view. Assumes nothing.
 use mathlib.Core.Bool.{Bool, true, not}
 use mathlib.Core.List.{List}
 use mathlib.Core.Path.{_≡_}

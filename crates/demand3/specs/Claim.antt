@@ -1,4 +1,4 @@
--- Demand 3, one claim about the whole list. Assumes nothing.
+-- Demand 3, one claim about the whole list of calls. Assumes nothing.
 use mathlib.Core.Bool.{true}
 use mathlib.Core.List.{List, [], _∷_}
 use mathlib.Core.Option.{some}
@@ -48,13 +48,13 @@ pub record Written (h : History) (e : Entry) : Type 0 where
   pub before : (i : ℕ) → i < image → outputsAt + i < add → e .after .out i ≡ e .before .out i
   pub behind : (i : ℕ) → i < image → add + length xs ≤ outputsAt + i → e .after .out i ≡ e .before .out i
 
--- the outputs stay; or the call takes the module from RUN into fallback, all to zero; or it is such a write
+-- the outputs stay; or the call takes the module from RUN into fallback, with all of them zero; or it is such a write
 pub data OutputsRight (h : History) (e : Entry) : Type 0 where
   same : ((i : ℕ) → i < image → e .after .out i ≡ e .before .out i) → OutputsRight h e
   fell : LeavesRun e → Safe (e .after) → OutputsRight h e
   written : Written h e → OutputsRight h e
 
--- RUN by an accepted sync, after a release
+-- RUN is entered by an accepted sync, after a release
 pub record Enters (h : History) (e : Entry) : Type 0 where
   pub src : ℕ
   pub cyc : ℕ
@@ -66,24 +66,24 @@ pub data Came (past : History) (e : Entry) : History → Type 0 where
   now : Came past e (past ▸ e)
   earlier : {h : History} {x : Entry} → Came past e h → Came past e (h ▸ x)
 
--- of every call of the history, with the calls before it
+-- P holds of every call of the history, with the calls before it
 abbrev pub Everywhere : (History → Entry → Type 0) → History → Type 0
 Everywhere P h = (past : History) (e : Entry) → Came past e h → P past e
 
--- of every module: the sync limit, and the way back to RUN
+-- for every kind of module: the sync limit, and the way back to RUN
 pub record Bounded (h : History) : Type 0 where
   -- silence ends in fallback, outputs zero
   pub sync-silence : Everywhere (λ past e. TickAtSyncLimit past e → Safe (e .after)) h
-  -- from fallback to RUN only so
+  -- from fallback to RUN only in this way
   pub entry-to-run : Everywhere (λ past e. EntersRun e → Enters past e) h
   -- the mode is one of the two, and no call is answered 19
   pub two-modes : Everywhere (λ past e. ((e .after .mode ≡ inRun → ⊥) → e .after .mode ≡ inFallback)) h
   pub no-19 : Everywhere (λ past e. e .answer ≡ unsound → ⊥) h
 
--- of a safe module: these too
+-- for a safe module, these too
 pub record Holds (h : History) : Type 0 where
   pub bounded : Bounded h
-  -- the outputs change only so
+  -- the outputs change only in these ways
   pub outputs : Everywhere OutputsRight h
   -- a call that takes the module from RUN into fallback leaves them all zero
   pub leaving-run : Everywhere (λ past e. LeavesRun e → Safe (e .after)) h

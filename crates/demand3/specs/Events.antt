@@ -1,5 +1,5 @@
--- What a call and its answer amount to. Written from the calls and the answers alone: a body is read by the reader of
--- frames, and the answer says whether it was accepted. Assumes nothing.
+-- What a call and its answer amount to, from the call and the answer alone: a body is read by the reader of frames, and
+-- the answer says whether it was accepted. Assumes nothing.
 use mathlib.Core.Bool.{Bool, false}
 use mathlib.Core.List.{List}
 use Prim.Native.Nat.{ℕ}
@@ -79,7 +79,7 @@ eventOf tick n = aTick
 eventOf (input xs) n = nothing
 eventOf (frame port body room) n = ofReceived (readFrame body) n
 
--- what a request asks for, as a release order and as an output write
+-- whether a request is a release order, and whether it is an output write
 abbrev pub ordersRelease : Ask → Bool
 ordersRelease (reads datl add) = false
 ordersRelease (writes add xs) = writesRelease add xs

@@ -1,5 +1,5 @@
--- The history of a list of calls from power-up: each call, its answer, what the two amount to, and what may be seen of the
--- agent before and after: mode, outputs, t, n, m. The counters of the agent are not among it. Assumes nothing.
+-- The history of a list of calls from power-up: each call, its answer, what the two amount to, and what may be seen of
+-- the agent before and after: mode, outputs, t, n, m. The agent's counters are not part of it. Assumes nothing.
 use mathlib.Core.List.{List, [], _∷_}
 use Prim.Native.Nat.{ℕ, _+_}
 use lib.ListN.{getD}
@@ -30,7 +30,7 @@ pub data History : Type 0 where
   powerOn : History
   _▸_ : History → Entry → History
 
--- by the mode and the registers
+-- what is seen, from the mode and the registers
 abbrev pub seenOf : ℕ → List ℕ → Seen
 seenOf mode regs = record {
   mode = mode;
@@ -54,7 +54,7 @@ entryOf a call answer b = callEntry call answer (seen a) (seen b)
 abbrev pub entry : Agent → Call → Outcome → Entry
 entry a call o = entryOf a call (o .answer) (o .agent)
 
--- each call on the agent as the one before left it
+-- each call is made on the agent that the one before left
 abbrev pub history : Agent → History → List Call → History
 history a h [] = h
 history a h (x ∷ xs) = history (act a x .agent) (h ▸ entry a x (act a x)) xs

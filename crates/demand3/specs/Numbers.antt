@@ -1,5 +1,5 @@
--- The numbers of the claim, written out from document 01 and not taken from the rules that it is claimed of.
--- proofs/SameNumbers has each beside the rules' own. Assumes nothing.
+-- The numbers in the claim, written out from document 01 and not imported from the rules that the claim is about.
+-- proofs/SameNumbers joins them to the rules' own. Assumes nothing.
 use mathlib.Core.Bool.{Bool, _&&_}
 use mathlib.Core.List.{List}
 use Prim.Native.Nat.{ℕ, _+_, _-_, _%_}
@@ -33,7 +33,7 @@ lastOutput = 0xBF
 abbrev pub image : ℕ
 image = 64
 
--- the answers that the words name: accepted; a write outside the rules; an unsound state
+-- the answers that the claim names: accepted; a write outside the rules; an unsound state
 abbrev pub accepted : ℕ
 accepted = 0
 

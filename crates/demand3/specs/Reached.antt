@@ -1,5 +1,5 @@
--- Demand 3 as a clause of a contract: what one call adds to every history from power-up that ended in the agent it is
--- handed. Power-up begins a history, each call continues it, and demand 3 holds at each step. Assumes nothing.
+-- Demand 3 as a clause of a contract: what one call adds to every history from power-up that ended in the agent passed
+-- to it. Power-up begins a history, each call continues it, and demand 3 holds at each step. Assumes nothing.
 use mathlib.Core.List.{List, [], _∷_}
 use mathlib.Core.Path.{_≡_}
 use Prim.Native.Nat.{ℕ}
@@ -15,8 +15,8 @@ abbrev pub agentAfter : Agent → List Call → Agent
 agentAfter a [] = a
 agentAfter a (x ∷ xs) = agentAfter (act a x .agent) xs
 
--- h is a history from power-up, and a the agent at its end. To read a contract it need not be opened: power-up gives it
--- of the empty history, each call hands it on, and demand 3 comes with it
+-- h is a history from power-up, and a the agent at its end. Whoever reads a contract need not look inside: power-up
+-- gives it for the empty history, each call passes it on, and demand 3 comes with it
 pub record Reached (h : History) (a : Agent) : Type 0 where
   pub mac : ℕ
   pub iid : ℕ
@@ -26,13 +26,13 @@ pub record Reached (h : History) (a : Agent) : Type 0 where
   pub is-history : history (powerUp mac iid ver) powerOn calls ≡ h
   pub is-agent : agentAfter (powerUp mac iid ver) calls ≡ a
 
--- the history with one call more, on the agent a, answered so, leaving the agent b: a history from power-up too, and
--- demand 3 and the sharper statements hold of it
+-- the history with one more call, made on the agent a, with this answer, leaving the agent b: it is a history from
+-- power-up too, and demand 3 and the sharper statements hold of it
 pub record Next (h : History) (a : Agent) (call : Call) (answer : ℕ) (b : Agent) : Type 0 where
   pub reached : Reached (h ▸ entryOf a call answer b) b
   pub holds : Holds (h ▸ entryOf a call answer b)
   pub sharper : Sharper (h ▸ entryOf a call answer b)
 
--- so for every history that ended in a
+-- this holds for every history that ended in a
 abbrev pub Continues : Agent → Call → ℕ → Agent → Type 0
 Continues a call answer b = (h : History) → Reached h a → Next h a call answer b

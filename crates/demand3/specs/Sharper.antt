@@ -1,5 +1,5 @@
--- What demand 3 comes to for the concentrators on the ring: a request is taken only when it is fresh; one from a
--- concentrator that lost the ring, and a copy of one already taken, change neither an output nor the mode.
+-- What demand 3 means for the concentrators on the ring: a request is taken only if it is fresh; one from a
+-- concentrator that lost the ring, or a copy of one already taken, changes neither an output nor the mode.
 -- Assumes nothing.
 use mathlib.Core.List.{List, _∷_}
 use mathlib.Core.Option.{some}
@@ -29,7 +29,7 @@ pub record Fresh (h : History) (r : Request) : Type 0 where
   pub of-sync : lastSync h ≡ some (r .src, r .cyc)
   pub due : numberDue h ≡ some (r .seq)
 
--- ---- what a call hands over, whatever it is answered
+-- ---- what a call brings, whatever the answer
 
 -- the body reads as a safe request with these fields
 pub data Asks (body : List ℕ) (dest src cyc seq : ℕ) : Type 0 where
@@ -46,7 +46,7 @@ pub record Brings (call : Call) (src seq : ℕ) : Type 0 where
   pub called : call ≡ frame port body room
   pub asks : Asks body dest src cyc seq
 
--- the call changes no output, nor the mode
+-- the call changes neither an output nor the mode
 pub record Unchanged (e : Entry) : Type 0 where
   pub outputs : (i : ℕ) → i < image → e .after .out i ≡ e .before .out i
   pub mode : e .after .mode ≡ e .before .mode
@@ -65,12 +65,12 @@ pub data Among (x : ℕ) : List ℕ → Type 0 where
   here : {l : List ℕ} → Among x (x ∷ l)
   there : {y : ℕ} {l : List ℕ} → Among x l → Among x (y ∷ l)
 
--- ---- the sentences
+-- ---- the statements
 
 pub record Sharper (h : History) : Type 0 where
   -- every request taken, a read or a refused write too, is fresh
   pub fresh : Everywhere (λ past e. (r : Request) → Takes e r → Fresh past r) h
-  -- after a sync from another source is accepted, no request of the earlier concentrator, a write among them, changes an
+  -- after a sync from another source is accepted, no request of the earlier concentrator, not even a write, changes an
   -- output or the mode until a sync of its own is accepted again
   pub deposed : Everywhere (λ past e. (src seq : ℕ) → Brings (e .call) src seq → Deposed src past → Unchanged e) h
   -- a request with a SEQ already taken since the last accepted sync, as a copy on either port has, changes neither

@@ -1,4 +1,4 @@
--- Document 01's words for demand 3, each a rule for what one more event makes of it. Assumes nothing.
+-- Document 01's words for demand 3, each defined by what one more event makes of it. Assumes nothing.
 use mathlib.Core.Bool.{true}
 use mathlib.Core.List.{List, [], _∷_}
 use mathlib.Core.Option.{Option, none, some}
@@ -76,7 +76,7 @@ abbrev pub AllDiffer : List ℕ → Type 0
 AllDiffer [] = Unit {0}
 AllDiffer (x ∷ l) = Differs x l × AllDiffer l
 
--- ticks since the last accepted sync, or since power-up where there is none
+-- ticks since the last accepted sync, or since power-up if there was none
 abbrev pub silenceAfter : Event → ℕ → ℕ
 silenceAfter aTick x = x + 1
 silenceAfter (aSync src cyc) x = 0
@@ -89,7 +89,7 @@ abbrev pub silence : History → ℕ
 silence powerOn = 0
 silence (h ▸ e) = silenceAfter (event e) (silence h)
 
--- ticks in RUN since the last output write or the entry to RUN, whichever is later: the mode before, the mode after
+-- ticks in RUN since the last output write or the entry to RUN, whichever is later; from the mode before and the mode after
 abbrev pub idleInRun : Event → ℕ → ℕ
 idleInRun aTick x = x + 1
 idleInRun (aSync src cyc) x = x
@@ -114,12 +114,12 @@ pub record EntersRun (e : Entry) : Type 0 where
   pub from : e .before .mode ≡ inFallback
   pub to : e .after .mode ≡ inRun
 
--- a tick at the sync limit: with it, at least n × t ticks since the last accepted sync; n and t of the agent before it
+-- a tick at the sync limit: with it there were at least n × t ticks since the last accepted sync; n and t are those before it
 pub record TickAtSyncLimit (h : History) (e : Entry) : Type 0 where
   pub tick : event e ≡ aTick
   pub limit : e .before .n * e .before .t ≤ silence (h ▸ e)
 
--- a tick at the other limit
+-- a tick at the command limit, in the same way
 pub record TickAtCommandLimit (h : History) (e : Entry) : Type 0 where
   pub tick : event e ≡ aTick
   pub run : e .before .mode ≡ inRun

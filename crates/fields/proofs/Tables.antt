@@ -1,5 +1,5 @@
--- Lists of fields: what is laid is read back, and what is read is laid back as it stood. A frame cites these at its own
--- list of widths, over which fieldsAt computes. Assumes nothing.
+-- Lists of fields: what is laid down is read back, and what is read is laid down again as it was. A frame cites these
+-- at its own list of widths, over which fieldsAt computes. Assumes nothing.
 use mathlib.Core.Path.{_≡_, refl, sym, ap, ap₂, _∙_}
 use mathlib.Core.List.{List, [], _∷_, _++_, append-assoc}
 use Prim.Native.Nat.{ℕ, _+_, _^_, _≤_, _<_}

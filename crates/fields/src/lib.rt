@@ -1,5 +1,5 @@
 // The fields of received application data: numbers of 1 to 8 bytes, high byte first, read through one reader. A byte
-// past the end reads as 0, so every reading has a value.
+// past the end reads as 0, so every read has a value.
 ghost use mathlib.Core.Path.{_≡_};
 ghost use Prim.Native.Nat.{_+_, _^_, _<_};
 ghost use lib.ListN.{take, drop, getD};
@@ -12,7 +12,7 @@ pub struct Reader<'a> {
     pub at: usize,
 }
 
-// The byte so many places behind a place.
+// The byte at index `at` + `off`, without computing a sum that could overflow.
 fn byte_behind(s: &[u8], at: usize, off: usize) -> u8
     ensures { λ r. ⌜ r ≡ getD (now (s .entry)) (at + off) 0 ⌝ }
 {
@@ -25,7 +25,7 @@ fn byte_behind(s: &[u8], at: usize, off: usize) -> u8
     s[at + off]
 }
 
-// The core that the reader stands on: so many bytes from a place on, at most 8, as a number.
+// The core of the reader: the number in `width` bytes, at most 8, starting at index `at`.
 fn number_at(s: &[u8], at: usize, width: usize) -> u64
     ensures { λ r. ⌜ (r ≡ numberAt (now (s .entry)) at (width8 width)) × (r < 256 ^ width8 width) ⌝ }
 {
@@ -40,7 +40,7 @@ fn number_at(s: &[u8], at: usize, width: usize) -> u64
     n
 }
 
-// So many bytes from a place on, or as many as there are.
+// `len` bytes starting at index `at`, or as many as there are.
 fn part_at(s: &[u8], at: usize, len: usize) -> &[u8]
     ensures { λ r. ⌜ now r ≡ take len (drop at (now (s .entry))) ⌝ }
 {
@@ -61,35 +61,35 @@ pub fn open<'a>(src: &'a [u8]) -> Reader<'a>
     Reader { src, at: 0 }
 }
 
-// The same reader at another place.
+// The same reader at another index.
 pub fn moved<'a>(r: Reader<'a>, at: usize) -> Reader<'a>
     ensures { λ q. ⌜ (q .src ≡ r .entry .src) × (q .at ≡ at) ⌝ }
 {
     Reader { src: r.src, at }
 }
 
-// The number of so many bytes, at most 8, at the reader's place.
+// The number in `width` bytes, at most 8, at the reader's index.
 pub fn number<'a>(r: Reader<'a>, width: usize) -> u64
     ensures { λ n. ⌜ (n ≡ numberAt (now (r .entry .src)) (r .entry .at) (width8 width)) × (n < 256 ^ width8 width) ⌝ }
 {
     number_at(r.src, r.at, width)
 }
 
-// So many bytes at the reader's place, or as many as there are.
+// `len` bytes at the reader's index, or as many as there are.
 pub fn part<'a>(r: Reader<'a>, len: usize) -> &'a [u8]
     ensures { λ p. ⌜ now p ≡ take len (drop (r .entry .at) (now (r .entry .src))) ⌝ }
 {
     part_at(r.src, r.at, len)
 }
 
-// A field by way of the reader: position and length as in the tables. All other callers use this.
+// A field read through the reader: position and length as in the tables. All other code uses this.
 pub fn field(s: &[u8], at: usize, width: usize) -> u64
     ensures { λ r. ⌜ (r ≡ numberAt (now (s .entry)) at (width8 width)) × (r < 256 ^ width8 width) ⌝ }
 {
     number(moved(open(s), at), width)
 }
 
-// The widths in use.
+// One function for each width in use.
 pub fn byte_field(s: &[u8], at: usize) -> u8
     ensures { λ r. ⌜ r ≡ numberAt (now (s .entry)) at 1 ⌝ }
 {
@@ -120,7 +120,7 @@ pub fn id_field(s: &[u8], at: usize) -> u64
     field(s, at, 8)
 }
 
-// The data bytes of a frame by way of the reader: as many as there are, up to a length.
+// The data bytes of a frame, read through the reader: `len` of them, or as many as there are.
 pub fn data_field(s: &[u8], at: usize, len: usize) -> &[u8]
     ensures { λ r. ⌜ now r ≡ take len (drop at (now (s .entry))) ⌝ }
 {

@@ -1,5 +1,5 @@
--- What holding an agent, or a call's answer and agent, tells of the fields. No field of the agent is looked at: its machine value is whatever the struct's laws say.
--- Assumes nothing.
+-- What holding an agent, or a call's answer and agent, tells about the fields. No field of the agent is looked at: its
+-- machine value is whatever the struct's laws say. Assumes nothing.
 use Prim.Native.Nat.{_<_, _^_}
 use mathlib.Core.List.{List}
 use mir.Val.{Val}

@@ -1,5 +1,5 @@
--- The elements of a `&[u8]` that is passed in are bytes: the borrow is opened, read and closed. A walk that is handed the
--- slice with its token learns it so, and has both back. Assumes `Given`.
+-- The elements of a `&[u8]` that is passed in are bytes: the borrow is opened, read and closed. A walk that has the
+-- slice with its token learns this, and gets both back. Assumes `Given`.
 use Prim.Native.Nat.{ℕ}
 use mathlib.Core.List.{List, [], _∷_}
 use mathlib.Core.Path.{refl}

@@ -1,6 +1,6 @@
-// The firmware's interface: the firmware owns the agent, and each call alters it in place. Thin functions over the calls
-// by value; include/saturn.h is the header for C. Demand 3 is a clause of each contract: power-up begins a history, and
-// each call continues every history that ended in the agent it is handed.
+// The firmware's interface: the firmware owns the agent, and each call alters it in place. Thin functions over the
+// calls by value; include/saturn.h is the header for C. Demand 3 is a clause of each contract: power-up begins a
+// history, and each call continues every history that ended in the agent passed to it.
 ghost use mathlib.Core.Path.{_≡_};
 ghost use lib.ListN.{length};
 ghost use Rattle.rules.specs.Calls.{tick, input, frame, tickCall, inputCall, frameCall, Answers, AnswersFrame};
@@ -39,7 +39,7 @@ pub extern "C" fn saturn_inputs(agent: &mut Agent, inputs: &[u8]) -> u8
     told.answer
 }
 
-// A body that came on a port, with a buffer for a reply, whose bytes past what is sent keep their value.
+// A body received on a port, and the reply buffer, whose bytes past what is sent keep their value.
 #[no_mangle]
 pub extern "C" fn saturn_frame(
     agent: &mut Agent,

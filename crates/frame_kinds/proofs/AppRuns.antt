@@ -1,4 +1,4 @@
--- Application data put down run by run: head, data and tail, and the CRC behind them. Assumes nothing.
+-- Application data put down run by run: head, data and tail, then the CRC. Assumes nothing.
 use mathlib.Core.Path.{_≡_, refl, sym, ap, ap₂, _∙_}
 use mathlib.Core.Bool.{Bool, true, false}
 use mathlib.Core.List.{List, _++_}

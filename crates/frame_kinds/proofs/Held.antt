@@ -1,4 +1,4 @@
--- The fields of a frame are at most eight, and the code holds them all. Assumes nothing.
+-- A frame has at most eight fields before its data, and at most eight after; the code holds them all. Assumes nothing.
 use mathlib.Core.Path.{_≡_, refl, sym, subst}
 use mathlib.Core.List.{List}
 use Prim.Native.Nat.{ℕ, _≤_}

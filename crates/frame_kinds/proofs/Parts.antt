@@ -1,4 +1,4 @@
--- The parts of application data, one behind the other: head, data, tail, and the safety CRC of a safe frame.
+-- The parts of application data, one after another: head, data, tail, and the safety CRC of a safe frame.
 -- Assumes nothing.
 use mathlib.Core.Path.{_≡_, refl, sym, ap, ap₂, _∙_}
 use mathlib.Core.Bool.{Bool, true, false}

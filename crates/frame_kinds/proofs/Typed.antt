@@ -1,4 +1,4 @@
--- A frame that the code holds has each field within its machine type: what the theorems over frames ask of one is so of
+-- A frame that the code holds has each field within its machine type: what the theorems over frames ask for holds of
 -- every frame that is passed. Assumes nothing.
 use mathlib.Core.List.{List}
 use native.Mathlib.Omega.{arith}

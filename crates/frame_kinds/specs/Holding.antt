@@ -13,7 +13,7 @@ paired ws vs (suc n) = paired ws vs n ++ ((getD ws n 0, getD vs n 0) ∷ [])
 abbrev pub fieldsIn : Fields → List (ℕ × ℕ)
 fieldsIn f = paired (f .widths) (f .values) (f .count)
 
--- and the other way: fields as the code holds them, with zeros behind the last
+-- and the other way round: fields as the code holds them, filled up with zeros
 abbrev pub heldAs : List (ℕ × ℕ) → Fields
 heldAs fs = record {
   widths = sets (replicate 8 0) 0 (map (λ f. f .0) fs);

@@ -43,7 +43,7 @@ headOf (Acknowledgement src dst sec mac) = (1, 0x33) ∷ (3, src) ∷ (3, dst) �
 headOf (Invariants dest src cyc seq config logic) =
     (1, 0xB4) ∷ (3, dest) ∷ (3, src) ∷ (1, cyc) ∷ (1, seq) ∷ (2, config) ∷ (2, logic) ∷ []
 
--- the fields behind the data: STAT
+-- the fields after the data: STAT
 abbrev pub tailOf : Frame → List (ℕ × ℕ)
 tailOf (Sync src cyc) = []
 tailOf (SafeRead dest src cyc seq datl add) = []
@@ -59,7 +59,7 @@ tailOf (SidAssignment4 src sec mac sid sid2 src2) = []
 tailOf (Acknowledgement src dst sec mac) = []
 tailOf (Invariants dest src cyc seq config logic) = []
 
--- the types marked safe, which the safety CRC ends
+-- the types marked safe, which end with the safety CRC
 abbrev pub isSafe : Frame → Bool
 isSafe (Sync src cyc) = true
 isSafe (SafeRead dest src cyc seq datl add) = true
@@ -75,7 +75,7 @@ isSafe (SidAssignment4 src sec mac sid sid2 src2) = true
 isSafe (Acknowledgement src dst sec mac) = true
 isSafe (Invariants dest src cyc seq config logic) = true
 
--- how many data bytes a frame has: DATL of the kinds with a field DATA
+-- how many data bytes a frame has: DATL in writes and responses, else none
 abbrev pub dataLen : Frame → ℕ
 dataLen (Sync src cyc) = 0
 dataLen (SafeRead dest src cyc seq datl add) = 0
@@ -91,7 +91,7 @@ dataLen (SidAssignment4 src sec mac sid sid2 src2) = 0
 dataLen (Acknowledgement src dst sec mac) = 0
 dataLen (Invariants dest src cyc seq config logic) = 0
 
--- where they stand: behind the head, at 12 in safe frames and at 5 in others
+-- where they start: after the head, which is 12 bytes long in safe writes and responses and 5 in non-safe ones
 unfoldable pub dataPlace : Frame → ℕ
 dataPlace f = length (laid (headOf f))
 
@@ -99,7 +99,7 @@ dataPlace f = length (laid (headOf f))
 abbrev pub dataIn : Frame → List ℕ → List ℕ
 dataIn f s = take (dataLen f) (drop (dataPlace f) s)
 
--- the safety CRC ends each type marked safe, high byte first
+-- bytes followed by their safety CRC, high byte first
 unfoldable pub sealed : List ℕ → List ℕ
 sealed xs = xs ++ bytesOf 2 (crcOf Safety xs)
 

@@ -1,4 +1,4 @@
--- Each field of a frame is a value of its machine type: what any caller of the code has by the types. Assumes nothing.
+-- Each field of a frame fits its machine type; for every caller of the code the types ensure it. Assumes nothing.
 use Prim.Native.Nat.{ℕ, _^_, _<_}
 use Rattle.frame_kinds.specs.declared.kinds.Frame.{Frame}
 use Rattle.frame_kinds.specs.declared.kinds.Frame.the-variants.{Sync, SafeRead, SafeWrite, PlainRead, PlainWrite, SafeResponse, PlainSyncResponse, PlainResponse, TidAssignment, SidAssignment, SidAssignment4, Acknowledgement, Invariants}

@@ -1,4 +1,4 @@
-// The kinds of frames and their fields, as tables 4 to 12 of document 000 and document 01 have them.
+// The kinds of frames and their fields, as in tables 4 to 12 of document 000 and in document 01.
 ghost use mathlib.Core.Path.{_≡_};
 ghost use mathlib.Core.List.{[], _∷_};
 ghost use Rattle.frame_kinds.specs.Kinds.{headOf, tailOf, isSafe, dataLen};
@@ -11,7 +11,7 @@ pub struct Fields {
     pub count: usize,
 }
 
-// A frame without its data bytes. They stay in the application data, behind the fields of `head_of`, `data_len` of them.
+// A frame without its data bytes. These stay in the application data: `data_len` bytes after the fields of `head_of`.
 pub enum Frame {
     Sync {
         src: u32,
@@ -120,7 +120,7 @@ fn safe_head(typ: u8, dest: u32, src: u32, cyc: u8, seq: u8, com: u8, datl: u8, 
     }
 }
 
-// The same of non-safe ones.
+// The same for non-safe ones.
 fn plain_head(typ: u8, src: u8, com: u8, datl: u8, add: u8) -> Fields
     ensures { λ r. ⌜ r ≡ heldAs ((1, typ) ∷ (1, src) ∷ (1, «com») ∷ (1, datl) ∷ (1, add) ∷ []) ⌝ }
 {
@@ -306,7 +306,7 @@ fn status_field(stat: u8) -> Fields
     }
 }
 
-// The fields behind the data.
+// The fields after the data.
 pub fn tail_of(f: Frame) -> Fields
     ensures { λ r. ⌜ r ≡ heldAs (tailOf f) ⌝ }
 {
@@ -327,7 +327,7 @@ pub fn tail_of(f: Frame) -> Fields
     }
 }
 
-// Whether the safety CRC ends it.
+// Whether the frame ends with the safety CRC.
 pub fn is_safe(f: Frame) -> bool
     ensures { λ r. ⌜ r ≡ isSafe f ⌝ }
 {
@@ -348,7 +348,7 @@ pub fn is_safe(f: Frame) -> bool
     }
 }
 
-// How many data bytes it has.
+// How many data bytes the frame has.
 pub fn data_len(f: Frame) -> usize
     ensures { λ r. ⌜ r ≡ dataLen f ⌝ }
 {

@@ -1,3 +1,3 @@
-// The kinds of frames: their fields, and the bytes of a number in a buffer.
+// The kinds of frames and their fields, and how a number is stored in a buffer.
 pub mod kinds;
 pub mod number;

@@ -1,11 +1,11 @@
-// A number's bytes stored in a buffer, high byte first. What lies past the buffer's end is left out.
+// A number's bytes stored in a buffer, high byte first. Bytes past the buffer's end are left out.
 ghost use mathlib.Core.Path.{_≡_};
 ghost use Prim.Native.Nat.{_+_};
 ghost use lib.ListN.{set};
 ghost use lib.Seq.{sets};
 ghost use Rattle.base.specs.Bytes.{bytesOf};
 
-// A byte, so many places behind a place.
+// Stores a byte at index `at` + `off`, without computing a sum that could overflow.
 fn store_behind(dst: &mut [u8], at: usize, off: usize, b: u8)
     ensures { λ r. ⌜ now (dst .exit) ≡ set (now (dst .entry)) (at + off) b ⌝ }
 {
@@ -18,7 +18,7 @@ fn store_behind(dst: &mut [u8], at: usize, off: usize, b: u8)
     dst[at + off] = b;
 }
 
-// The low bytes of a number, so many, from a place on.
+// Stores the `width` low bytes of a number, starting at index `at`.
 pub fn store_number(dst: &mut [u8], at: usize, width: usize, n: u64)
     ensures { λ r. ⌜ now (dst .exit) ≡ sets (now (dst .entry)) at (bytesOf width n) ⌝ }
 {

@@ -1,4 +1,4 @@
--- The answers of a reader: when it reads a frame, and what holds where it read one. Assumes nothing.
+-- The answers of a reader: when it reads a frame, and what holds if it read one. Assumes nothing.
 use mathlib.Core.Path.{_≡_, refl, ap, _∙_}
 use mathlib.Core.Bool.{Bool, true, false}
 use mathlib.Core.List.{List}

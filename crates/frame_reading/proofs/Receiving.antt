@@ -1,4 +1,4 @@
--- What an answer of the reader says: a frame is valid where its body and its application data are. Assumes nothing.
+-- What an answer of the reader says: a frame is valid if its body and its application data are. Assumes nothing.
 use mathlib.Core.Path.{_≡_, refl, ap, _∙_, subst}
 use Prim.Native.Nat.{ℕ}
 use mathlib.Core.List.{List}

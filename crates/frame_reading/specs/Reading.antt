@@ -1,4 +1,4 @@
--- Frames as they are read: numbers 7, 8 and 9 of application data, and 1 to 5 of the body before them.
+-- How frames are read: numbers 7, 8 and 9 for application data, and before them 1 to 5 for the body.
 -- `numberAt s position length` is a field. Assumes nothing.
 use mathlib.Core.Bool.{Bool, true, false, _&&_, _||_}
 use mathlib.Core.List.{List, []}
@@ -24,7 +24,7 @@ use Rattle.frame_reading.specs.declared.reading.Reading.{Reading}
 use Rattle.frame_reading.specs.declared.reading.Reading.the-variants as reading
 use Rattle.frame_reading.specs.declared.reading.Received.{Received}
 
--- the safety CRC at the end is that of what stands before it
+-- the safety CRC at the end is that of the bytes before it
 unfoldable pub safeOk : List ℕ → Bool
 safeOk s = eqb (crcOf Safety (take (length s - 2) s)) (numberAt s (length s - 2) 2)
 
@@ -32,7 +32,7 @@ safeOk s = eqb (crcOf Safety (take (length s - 2) s)) (numberAt s (length s - 2)
 unfoldable pub safeRead : Bool → List ℕ → Frame → Read
 safeRead form s f = choose form (choose (safeOk s) (Valid f) Check) Form
 
--- another one: its form alone
+-- a non-safe frame: its form only
 unfoldable pub plainRead : Bool → Frame → Read
 plainRead form f = choose form (Valid f) Form
 
@@ -72,7 +72,7 @@ readSafeResponse s =
     safeRead (safeCom (numberAt s 9 1) (numberAt s 10 1) && eqb (length s) (15 + numberAt s 10 1)) s
     (SafeResponse (numberAt s 1 3) (numberAt s 4 3) (numberAt s 7 1) (numberAt s 8 1) (numberAt s 9 1) (numberAt s 10 1) (numberAt s 11 1) (numberAt s (12 + numberAt s 10 1) 1))
 
--- table 8: COM 01h has a status byte at 5 + DATL; 02h has none; AAh and 55h (errors) have no data
+-- table 8: COM 01h has a status byte at 5 + DATL, the others have none; AAh and 55h (errors) have no data
 unfoldable pub plainCom : ℕ → ℕ → Bool
 plainCom «com» datl = choose (eqb «com» 0x02) true (choose (eqb «com» 0xAA || eqb «com» 0x55) (eqb datl 0) false)
 
@@ -86,7 +86,7 @@ readPlainResponse s =
 unfoldable pub readTidAssignment : List ℕ → Read
 readTidAssignment s = plainRead (eqb (length s) 11) (TidAssignment (numberAt s 1 1) (numberAt s 2 8) (numberAt s 10 1))
 
--- table 10, and the SIL4 form, told by its length
+-- table 10, and the SIL4 form, which is told apart by its length
 unfoldable pub sil2Assignment : List ℕ → Read
 sil2Assignment s =
     safeRead (eqb (length s) 21) s (SidAssignment (numberAt s 1 3) (numberAt s 4 4) (numberAt s 8 8) (numberAt s 16 3))
@@ -121,11 +121,11 @@ readTyp typ a s =
     (choose (eqb typ 0xC3) (readSidAssignment s)
     Kind))))))))
 
--- application data that came for an address
+-- application data received for an address
 unfoldable pub readApp : ℕ → List ℕ → Read
 readApp a s = readTyp (numberAt s 0 1) a s
 
--- document 01's number of each answer to application data and, beside 0, the frame
+-- document 01's number for each answer to application data and, with 0, the frame
 abbrev pub readAnswer : Read → Answer Frame
 readAnswer (Valid f) = (0, some f)
 readAnswer Kind = (7, none)
@@ -136,11 +136,11 @@ readAnswer Check = (9, none)
 abbrev pub readNumber : Read → ℕ
 readNumber r = readAnswer r .0
 
--- the answer to application data that came for an address
+-- the answer to application data received for an address
 abbrev pub answerToApp : ℕ → List ℕ → Answer Frame
 answerToApp a s = readAnswer (readApp a s)
 
--- document 01's number of each answer to a body and, beside 0, the address, the frame and its data bytes, of application data s
+-- document 01's number for each answer to a body and, with 0, the address, the frame and its data bytes in the application data s
 abbrev pub readingAnswer : Reading → List ℕ → Answer (ℕ × Frame × List ℕ)
 readingAnswer (reading.Valid a f) s = (0, some (a, f, dataIn f s))
 readingAnswer reading.Length s = (1, none)
@@ -156,11 +156,11 @@ readingAnswer reading.Check s = (9, none)
 abbrev pub readingNumber : Reading → ℕ
 readingNumber r = readingAnswer r [] .0
 
--- the answer that the reader of frames holds
+-- the answer that the reader of frames returns
 abbrev pub receivedAnswer : Received → Answer (ℕ × Frame × List ℕ)
 receivedAnswer r = readingAnswer (r .reading) (take (r .len) (r .bytes))
 
--- what a body is answered: a frame is read with its application data, a refusal holds nothing
+-- what the reader returns: a frame with its application data; a refusal holds nothing
 abbrev pub refusedFrame : Reading → Received
 refusedFrame r = record { reading = r; bytes = replicate 272 0; len = 0 }
 

@@ -1,2 +1,2 @@
-// Frames read: from application data, and from a body between two flags.
+// Reading frames: from application data, and from a body between two flags.
 pub mod reading;

@@ -1,4 +1,4 @@
-// Frames read: from application data, and from a body.
+// Reading frames: from application data, and from a body.
 ghost use mathlib.Core.Path.{_≡_};
 ghost use Prim.Native.Nat.{_≤_};
 ghost use lib.ListN.{take};
@@ -13,7 +13,7 @@ use frame_kinds::kinds::Frame;
 use wire::body::Body;
 use wire::body::Verdict;
 
-// What application data are answered: a frame, or numbers 7 to 9.
+// The answer to application data: a frame, or one of the numbers 7 to 9.
 pub enum Read {
     Valid(Frame),
     Kind,
@@ -33,7 +33,7 @@ pub fn read_number(read: Read) -> u8
     }
 }
 
-// What a body is answered: an address and a frame, or numbers 1 to 5 and 7 to 9.
+// The answer to a body: an address and a frame, or one of the numbers 1 to 5 and 7 to 9.
 pub enum Reading {
     Valid(u8, Frame),
     Length,
@@ -62,14 +62,14 @@ pub fn reading_number(reading: Reading) -> u8
     }
 }
 
-// A frame that was read, beside the application data that hold its data bytes, the first `len` of `bytes`.
+// The answer to a body, with the application data in the first `len` of `bytes`; they hold the frame's data bytes.
 pub struct Received {
     pub reading: Reading,
     pub bytes: [u8; 272],
     pub len: usize,
 }
 
-// The safety CRC at the end is that of what stands before it.
+// Whether the safety CRC at the end is that of the bytes before it.
 fn safe_ok(s: &[u8]) -> bool
     ensures { λ r. ⌜ r ≡ safeOk (now (s .entry)) ⌝ }
 {
@@ -93,7 +93,7 @@ fn safe_read(form: bool, s: &[u8], f: Frame) -> Read
     Read::Check
 }
 
-// Another one: its form alone.
+// A non-safe frame: its form only.
 fn plain_read(form: bool, f: Frame) -> Read
     ensures { λ r. ⌜ r ≡ plainRead form f ⌝ }
 {
@@ -217,7 +217,7 @@ fn read_safe_response(s: &[u8]) -> Read
     )
 }
 
-// The same of a non-safe response other than the answer to a sync.
+// The same for a non-safe response other than the answer to a sync.
 pub fn plain_com(com: u8, datl: u8) -> bool
     ensures { λ r. ⌜ r ≡ plainCom «com» datl ⌝ }
 {
@@ -346,7 +346,7 @@ fn read_invariants(s: &[u8]) -> Read
     )
 }
 
-// The TYP byte decides. Between the types that are built stand those that are not.
+// The TYP byte decides. The ranges are the types that are not built: number 7.
 fn read_typ(typ: u8, addr: u8, s: &[u8]) -> Read
     ensures { λ r. ⌜ r ≡ readTyp typ addr (now (s .entry)) ⌝ }
 {
@@ -371,7 +371,7 @@ fn read_typ(typ: u8, addr: u8, s: &[u8]) -> Read
     }
 }
 
-// Application data that came for an address.
+// Application data received for an address.
 pub fn read_app(addr: u8, s: &[u8]) -> Read
     ensures { λ r. ⌜ (r ≡ readApp addr (now (s .entry))) × (readAnswer r ≡ answerToApp addr (now (s .entry))) ⌝ }
 {
@@ -388,7 +388,7 @@ fn refused(reading: Reading) -> Received
     }
 }
 
-// A valid body, by its application data.
+// The frame in a valid body, or what its application data are refused with.
 fn received_app(b: Body) -> Received
     requires { ⌜ b .len ≤ 272 ⌝ }
     ensures { λ r. ⌜ r ≡ receivedApp (readApp (b .addr) (take (b .len) (b .bytes))) b ⌝ }
@@ -408,7 +408,7 @@ fn received_app(b: Body) -> Received
     }
 }
 
-// A body that was read, by its verdict.
+// By the verdict on the body.
 fn received_body(b: Body) -> Received
     requires { ⌜ b .len ≤ 272 ⌝ }
     ensures { λ r. ⌜ r ≡ receivedBody b ⌝ }

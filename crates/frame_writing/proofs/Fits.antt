@@ -1,5 +1,5 @@
--- Three bounds of a frame's numbers: the machine types, what the writer asks, and the widths of the tables. The first two
--- give the third, and the third gives the first. Assumes nothing.
+-- Three bounds on a frame's numbers: the machine types, what the writer asks for, and the widths in the tables. The
+-- first two give the third, and the third gives the first. Assumes nothing.
 use mathlib.Core.Path.{_≡_}
 use mathlib.Core.Bool.{true, _&&_}
 use Prim.Native.Nat.{ℕ}

@@ -1,4 +1,4 @@
--- Laws of fields put down one behind the other. Assumes nothing.
+-- Laws of fields put down one after another. Assumes nothing.
 use mathlib.Core.Path.{_≡_, refl, sym, ap, ap₂, _∙_}
 use mathlib.Core.List.{List, [], _∷_, _++_, append-assoc, append-nil}
 use mathlib.Core.Logic.{⊎-elim}

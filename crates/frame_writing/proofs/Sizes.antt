@@ -1,4 +1,4 @@
--- The application data of a frame have 4 to 269 bytes, as a body wants them. Assumes nothing.
+-- The application data of a frame are 4 to 269 bytes long, as a body needs them to be. Assumes nothing.
 use mathlib.Core.Path.{_≡_}
 use mathlib.Core.Bool.{Bool, true, false, _&&_, _||_}
 use Prim.Native.Nat.{ℕ, _≤_}

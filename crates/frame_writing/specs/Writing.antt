@@ -1,4 +1,4 @@
--- Frames as they are written: numbers 5, 8 and 20. Assumes nothing.
+-- How frames are written: numbers 5, 8 and 20. Assumes nothing.
 use mathlib.Core.Bool.{Bool, true, _&&_}
 use mathlib.Core.List.{List}
 use Prim.Native.Nat.{ℕ}
@@ -35,11 +35,11 @@ fieldsFit a (SidAssignment4 src sec mac sid sid2 src2) = is24 src && is24 sid &&
 fieldsFit a (Acknowledgement src dst sec mac) = is24 src && is24 dst
 fieldsFit a (Invariants dest src cyc seq config logic) = is24 dest && is24 src
 
--- and the data are as many as the frame says
+-- and there are as many data bytes as the frame says
 unfoldable pub fits : ℕ → Frame → ℕ → Bool
 fits a f n = fieldsFit a f && eqb n (dataLen f)
 
--- what stands on the line
+-- the bytes on the line
 abbrev pub frameLine : ℕ → Frame → List ℕ → List ℕ
 frameLine a f xs = lineOf a (appOf f xs)
 
@@ -52,6 +52,6 @@ writtenOf n a f xs =
     (Sent (length (frameLine a f xs))))
     Form)
 
--- the same as document 01's number and value
+-- the same answer as document 01's number and value
 abbrev pub answerToWriting : ℕ → ℕ → Frame → List ℕ → Answer ℕ
 answerToWriting n a f xs = laidAnswer (writtenOf n a f xs)

@@ -1,3 +1,3 @@
-// Frames written to the line; with the theorems that reading and writing undo each other.
+// Writing frames to the line, and the theorems that reading and writing undo each other.
 mod putting;
 pub mod writing;

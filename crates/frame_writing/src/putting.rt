@@ -1,4 +1,4 @@
-// Fields put down, one behind the other, each a number of so many bytes, high byte first.
+// Fields stored one after another, each a number of a given width, high byte first.
 ghost use mathlib.Core.Path.{_≡_};
 ghost use Prim.Native.Nat.{_+_, _≤_};
 ghost use lib.ListN.{length};
@@ -9,7 +9,7 @@ ghost use Rattle.frame_kinds.specs.Holding.{fieldsIn};
 use frame_kinds::kinds::Fields;
 use frame_kinds::number::store_number;
 
-// A number from a place on, where there is room; the next place.
+// Stores a number at index `at`; returns the next index.
 pub fn put_number(dst: &mut [u8], at: usize, width: usize, n: u64) -> usize
     requires { ⌜ at + width ≤ length (now dst) ⌝ }
     ensures { λ r. ⌜ (r ≡ at + width) × (now (dst .exit) ≡ sets (now (dst .entry)) at (bytesOf width n)) ⌝ }
@@ -18,7 +18,7 @@ pub fn put_number(dst: &mut [u8], at: usize, width: usize, n: u64) -> usize
     at + width
 }
 
-// Fields from a place on; the next place.
+// Stores fields, starting at index `at`; returns the next index.
 pub fn put_fields(dst: &mut [u8], at: usize, f: Fields) -> usize
     requires { ⌜ (f .count ≤ 8) × (at + length (laid (fieldsIn f)) ≤ length (now dst)) ⌝ }
     ensures { λ r. ⌜ (r ≡ at + length (laid (fieldsIn f))) × (now (dst .exit) ≡ sets (now (dst .entry)) at (laid (fieldsIn f))) ⌝ }

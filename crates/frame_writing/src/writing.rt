@@ -48,14 +48,14 @@ fn fields_fit(addr: u8, f: Frame) -> bool
     }
 }
 
-// And the data are as many as the frame says.
+// Whether they can, and there are as many data bytes as the frame says.
 fn fits_data(addr: u8, f: Frame, len: usize) -> bool
     ensures { λ r. ⌜ r ≡ fits addr f len ⌝ }
 {
     fields_fit(addr, f) & (len == kinds::data_len(f))
 }
 
-// The application data, from the buffer's first byte on; their length.
+// Stores the application data at the start of the buffer; returns their length.
 fn put_app(dst: &mut [u8], f: Frame, data: &[u8]) -> usize
     requires { ⌜ length (appOf f (now «data»)) ≤ length (now dst) ⌝ }
     ensures { λ r. ⌜ (r ≡ length (appOf f (now («data» .entry)))) × (now (dst .exit) ≡ sets (now (dst .entry)) 0 (appOf f (now («data» .entry)))) ⌝ }
@@ -70,7 +70,7 @@ fn put_app(dst: &mut [u8], f: Frame, data: &[u8]) -> usize
     n
 }
 
-// A frame with its data for an address, or a refusal with the buffer untouched.
+// Writes a frame with its data for an address, or refuses it and leaves the buffer untouched.
 pub fn write_frame(buf: &mut [u8], addr: u8, f: Frame, data: &[u8]) -> Laid
     ensures { λ r. ⌜ (r ≡ writtenOf (length (now (buf .entry))) addr f (now («data» .entry))) × (now (buf .exit) ≡ leftBy r (frameLine addr f (now («data» .entry))) (now (buf .entry))) × (laidAnswer r ≡ answerToWriting (length (now (buf .entry))) addr f (now («data» .entry))) ⌝ }
 {

@@ -1,5 +1,6 @@
-// The calls by value with demand 3 in their contracts: beside what `agent` says of a call, what the call adds to every
-// history from power-up that ended in the agent it is handed. One call of `agent` each, known by its contract alone.
+// The calls by value with demand 3 in their contracts: besides what `agent` promises of a call, what the call adds to
+// every history from power-up that ended in the agent passed to it. Each makes one call of `agent`, and only its
+// contract is used.
 ghost use mathlib.Core.Path.{_≡_};
 ghost use lib.ListN.{length};
 ghost use Rattle.rules.specs.Calls.{tick as Calls·tick, input as Calls·input, frame as Calls·frame, tickCall, inputCall, frameCall, Answers, AnswersFrame};

@@ -1,4 +1,4 @@
--- An accepted TID assignment, and one of a SID, make a good agent of a good one. Assumes nothing.
+-- An accepted TID assignment, or SID assignment, makes a good agent of a good one. Assumes nothing.
 use mathlib.Core.Path.{_≡_, sym, ap, _∙_}
 use mathlib.Core.Bool.{true, false, not, _||_}
 use mathlib.Core.List.{List, [], _∷_}

@@ -1,5 +1,5 @@
--- What a tick does to t, e and c, of any agent: t stays; e goes up by one; at the end of the cycle c goes up by one and e
--- starts again. Assumes nothing.
+-- What a tick does to t, e and c, for any agent: t stays; e goes up by one; at the end of the cycle c goes up by one
+-- and e starts again. Assumes nothing.
 use mathlib.Core.Path.{_≡_, refl, ap, _∙_}
 use Prim.Native.Nat.{ℕ, _+_, _%_, _≤_, _<_}
 use native.Mathlib.Omega.{arith}

@@ -1,4 +1,4 @@
--- From power-up on every call leaves a good agent. Assumes nothing.
+-- From power-up on, every call leaves a good agent. Assumes nothing.
 use mathlib.Core.Bool.{_&&_}
 use mathlib.Core.List.{List}
 use mathlib.Core.Path.{_≡_}

@@ -1,4 +1,4 @@
--- An accepted sync of a recorded source makes a good agent of a good one. Assumes nothing.
+-- An accepted sync from a recorded source makes a good agent of a good one. Assumes nothing.
 use mathlib.Core.Path.{_≡_, refl}
 use mathlib.Core.Bool.{true, not, _&&_}
 use mathlib.Core.Logic.{inl}

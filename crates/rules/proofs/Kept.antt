@@ -1,4 +1,4 @@
--- A change of registers that leaves what soundness reads of them: soundness stays. Assumes nothing.
+-- A change of registers that leaves alone what soundness reads of them keeps a state sound. Assumes nothing.
 use mathlib.Core.Path.{_≡_, sym, ap, _∙_}
 use mathlib.Core.List.{List, [], _∷_}
 use mathlib.Core.Logic.{_⊎_}

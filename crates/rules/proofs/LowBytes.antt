@@ -1,4 +1,4 @@
--- Numbers in registers, low byte first: what is stored is read back, and a number is the same where its registers are.
+-- Numbers in registers, low byte first: what is stored is read back, and a number is the same if its registers are.
 -- Assumes nothing.
 use mathlib.Core.Path.{_≡_, refl, sym, ap, ap₂, _∙_}
 use mathlib.Core.List.{List}

@@ -1,5 +1,5 @@
--- Soundness part by part, as facts and not as tests. Each part names only the values that it reads, so that it stands
--- where a change leaves those alone. Assumes nothing.
+-- Soundness part by part, as facts and not as tests. Each part names only the values that it reads, so that it still
+-- holds if a change leaves those alone. Assumes nothing.
 use mathlib.Core.Path.{_≡_}
 use mathlib.Core.Bool.{true}
 use mathlib.Core.List.{List}

@@ -1,5 +1,5 @@
--- STATUT's masks and bits 4, 3, 2 and 0, of every number and not only of bytes: marks and modes leave them, a sent reply
--- clears them. Assumes nothing.
+-- STATUT's masks and bits 4, 3, 2 and 0, for every number and not only for bytes: marks and modes leave them, a sent
+-- reply clears them. Assumes nothing.
 use mathlib.Core.Path.{_≡_, refl, sym, ap, _∙_}
 use Prim.Native.Nat.{ℕ, _%_, _^_, _<_}
 use native.Mathlib.Omega.{arith}

@@ -1,4 +1,4 @@
--- The first n of a list: the tests over them, and what these say of each; and one recorded more. Assumes nothing.
+-- The first n of a list: the tests over them, and what these say of each; and one more recorded. Assumes nothing.
 use mathlib.Core.Path.{_≡_, refl, sym, ap, _∙_, subst}
 use mathlib.Core.Bool.{Bool, true, false, not}
 use mathlib.Core.List.{List}

@@ -1,4 +1,4 @@
--- A fact of a refusal's row, from one for each change, with the numbers that cause it. Assumes nothing.
+-- A fact about a refusal's row, from one fact for each change, with the numbers that cause it. Assumes nothing.
 use mathlib.Core.Bool.{Bool}
 use mathlib.Core.Logic.{_⊎_, inl, inr}
 use mathlib.Core.Path.{_≡_}

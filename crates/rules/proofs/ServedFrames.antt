@@ -1,5 +1,5 @@
--- What the module reads yields only frames that it serves: a TYP that is not served is 7 before anything else is read,
--- and a SIL4 assignment is told by its length. Assumes nothing.
+-- The module reads only frames that it serves: a TYP that is not served is 7 before anything else is read, and a SIL4
+-- assignment is told apart by its length. Assumes nothing.
 use mathlib.Core.Bool.{Bool, true, false}
 use mathlib.Core.Path.{_≡_, refl, sym, ap, _∙_}
 use mathlib.Core.List.{List, _∷_}

@@ -1,4 +1,4 @@
--- The calls, with the host's numbers first: 19, 20, 21. Assumes nothing.
+-- The calls: the host's numbers, 19, 20 and 21, come first. Assumes nothing.
 use mathlib.Core.Bool.{_||_}
 use mathlib.Core.List.{List, _++_}
 use mathlib.Core.Path.{_≡_}
@@ -15,7 +15,7 @@ use Rattle.rules.specs.Sound.{sound}
 use Rattle.rules.specs.Tick.{ticked}
 use Rattle.rules.specs.declared.Agent.{Agent}
 
--- the reply buffer has at least so many bytes
+-- the minimum length of the reply buffer, in bytes
 abbrev pub leastRoom : ℕ
 leastRoom = 545
 
@@ -34,20 +34,20 @@ frameCall a port body room =
     (choose (eqb port 1 || eqb port 2) (sent (onFrame port a body)) (outcome hostInput a)))
     (outcome unsound a)
 
--- the reply buffer afterwards: what was sent, and the bytes past it as they were
+-- the reply buffer afterwards: what was sent, then the rest as it was
 abbrev pub leftIn : Outcome → List ℕ → List ℕ
 leftIn o buffer = o .line ++ drop (length (o .line)) buffer
 
--- what a call hands back, held to what the rules make of it: the answer and the agent
+-- a call returns what the rules give: the answer and the agent
 abbrev pub Answers : Outcome → ℕ → Agent → Type 0
 Answers o answer agent = (answer ≡ o .answer) × (agent ≡ o .agent)
 
--- and of a frame call also how many bytes are sent, and the reply buffer, as it was and as it is left
+-- a frame call also returns the number of bytes sent, and leaves in the reply buffer what the rules leave there
 abbrev pub AnswersFrame : Outcome → ℕ → Agent → ℕ → List ℕ → List ℕ → Type 0
 AnswersFrame o answer agent sent before after =
     (answer ≡ o .answer) × (agent ≡ o .agent) × (sent ≡ length (o .line)) × (after ≡ leftIn o before)
 
--- a call of a list
+-- one call in a list of calls
 pub data Call : Type 0 where
   tick : Call
   input : List ℕ → Call

@@ -31,7 +31,7 @@ pub data Brings : Call → Frame → List ℕ → Type 0 where
   brings : {port room : ℕ} {body : List ℕ} {f : Frame} → readOf body ≡ Valid f
       → Brings (frame port body room) f (dataIn f (take (readBody body .len) (readBody body .bytes)))
 
--- what register i, a counter, is after a call with its answer n
+-- what a call with answer n may do to register i, a counter
 pub data Counter (a : Agent) (call : Call) (n : ℕ) (b : Agent) (i : ℕ) : Type 0 where
   as-before : reg b i ≡ reg a i → Counter a call n b i
   -- an accepted write covers it
@@ -41,7 +41,7 @@ pub data Counter (a : Agent) (call : Call) (n : ℕ) (b : Agent) (i : ℕ) : Typ
   out-of-sequence : i ≡ cptSeq → (n ≡ cycle) ⊎ (n ≡ outOfOrder) → reg b i ≡ counter (reg a i) → Counter a call n b i
   not-served : i ≡ cptFor → n ≡ typ → reg b i ≡ counter (reg a i) → Counter a call n b i
 
--- bits 4, 3, 2 and 0
+-- STATUT bits 4, 3, 2 and 0
 abbrev pub quietBits : Agent → ℕ
 quietBits a = bitAnd (reg a statut) 0x1D
 

@@ -6,14 +6,14 @@ use Rattle.rules.specs.Registers.{outRep, statut, outputsAt, image}
 use Rattle.rules.specs.State.{inRun, inFallback, reg, withMode, store, storeAll}
 use Rattle.rules.specs.declared.Agent.{Agent}
 
--- OUT_REP: released, and not
+-- OUT_REP: released, and not released
 abbrev pub released : ℕ
 released = 0x55
 
 abbrev pub withheld : ℕ
 withheld = 0xAA
 
--- 80h to BFh to 00h, OUT_REP to AAh, q to 0 and STATUT bit 7; c, heard, e, s, k, the sources stay
+-- sets 80h to BFh to 00h, OUT_REP to AAh, q to 0 and STATUT bit 7; c, heard, e, s, k and the sources stay
 unfoldable pub enterFallback : Agent → Agent
 enterFallback a =
     withMode inFallback 0 (storeAll outputsAt (replicate image 0) (store outRep withheld (store statut (bitOr (reg a statut) 0x80) a)))

@@ -1,4 +1,4 @@
--- The frame call: numbers 1 to 9, and then by the kind of frame. Assumes nothing.
+-- The frame call: numbers 1 to 9, then what the kind of frame does. Assumes nothing.
 use mathlib.Core.Bool.{Bool, true, false, _&&_, _||_}
 use mathlib.Core.List.{List}
 use Prim.Native.Nat.{ℕ}
@@ -27,8 +27,8 @@ use Rattle.rules.specs.Sync.{onSync}
 use Rattle.rules.specs.declared.Agent.{Agent}
 use Rattle.rules.specs.declared.Deed.{Deed}
 
--- by the kind of a served frame with its data; the others are not served, so 7 with its mark, and 8 for the SIL4 assignment,
--- as `agentRead` has it already: it yields only frames that `serves` names (proofs/ServedFrames)
+-- by the kind of frame, with its data. The kinds that are not served are 7 with its mark, and the SIL4 assignment is 8;
+-- but `agentRead` has refused these already: it yields only frames that `serves` names (proofs/ServedFrames)
 abbrev pub onKind : ℕ → Agent → Frame → List ℕ → Deed
 onKind port a (Sync src cyc) xs = onSync port a src cyc
 onKind port a (SafeRead dest src cyc seq datl add) xs = onRequest port a dest src cyc seq (reads datl add)
@@ -60,7 +60,7 @@ serves (SidAssignment4 src sec mac sid sid2 src2) = false
 serves (Acknowledgement src dst sec mac) = false
 serves (Invariants dest src cyc seq config logic) = false
 
--- served: 00h, 07h, 3Ch, C3h
+-- the TYPs that are served: 00h, 07h, 3Ch, C3h
 unfoldable pub served : ℕ → Bool
 served kind = eqb kind 0x00 || eqb kind 0x07 || eqb kind 0x3C || eqb kind 0xC3
 
@@ -79,7 +79,7 @@ onRead port a Kind s = does (readNumber Kind) (formatMarked a)
 onRead port a Form s = does (readNumber Form) a
 onRead port a Check s = does (readNumber Check) a
 
--- 6: the address is the own TID, 90h or FFh
+-- 6 unless the address is the own TID, 90h or FFh
 abbrev pub isOwn : Agent → ℕ → Bool
 isOwn a addr = eqb addr (reg a tidAt) || eqb addr 0x90 || eqb addr 0xFF
 
@@ -98,6 +98,6 @@ onVerdict port a verdict.Reserved b = does (verdictNumber verdict.Reserved) a
 unfoldable pub onBody : ℕ → Agent → Body → Deed
 onBody port a b = onVerdict port a (b .verdict) b
 
--- a body that came on a port
+-- a body received on a port
 unfoldable pub onFrame : ℕ → Agent → List ℕ → Deed
 onFrame port a body = onBody port a (readBody body)

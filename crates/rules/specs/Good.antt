@@ -1,4 +1,4 @@
--- What holds of every agent that calls leave behind from power-up: it is sound, and its arrays are what the types say.
+-- What holds of every agent that calls from power-up lead to: it is sound, and its arrays are as the types say.
 -- Assumes nothing.
 use mathlib.Core.Bool.{true}
 use mathlib.Core.Path.{_≡_}

@@ -1,4 +1,4 @@
--- Registers at power-up. Assumes nothing.
+-- The agent at power-up. Assumes nothing.
 use mathlib.Core.List.{List, [], _∷_}
 use Prim.Native.Nat.{ℕ}
 use lib.ListN.{replicate}

@@ -1,5 +1,5 @@
--- Document 01, "Who causes which number": what each refusal leaves. A refusal sends nothing, and changes no state but as
--- its row says. Assumes nothing.
+-- Document 01, "Who causes which number": what each refusal changes. A refusal sends nothing, and changes only what its
+-- row says. Assumes nothing.
 use mathlib.Core.Bool.{Bool, true, false, _&&_, _||_}
 use mathlib.Core.List.{List, []}
 use mathlib.Core.Path.{_≡_}
@@ -44,7 +44,7 @@ pub data Change : Type 0 where
 abbrev pub isRefusal : ℕ → Bool
 isRefusal n = within bodyLength hostInput n
 
--- the row of a number; 12 has two, to a sync in RUN and to a request
+-- the row of a number; 12 has two, one for a sync in RUN and one for a request
 abbrev pub rowOf : (toSync : Bool) → ℕ → Change
 rowOf toSync n =
     -- the line: 1 to 4
@@ -66,7 +66,7 @@ rowOf toSync n =
 abbrev pub leavesAll : ℕ → Bool
 leavesAll n = eqb n elsewhere || (eqb n crc || (eqb n source || (eqb n addressee || eqb n repeat)))
 
--- the agent that a change makes, whole
+-- the whole agent after a change
 abbrev pub changed : Change → Agent → Agent
 changed nothing a = a
 changed lineMark a = lineMarked a
@@ -104,7 +104,7 @@ namesTaken sequenceMark = false
 namesTaken sequenceFall = false
 namesTaken oneTaken = true
 
--- b is a but for the parts that a change names
+-- b is a except for the parts that a change names
 pub record ButFor (row : Change) (a b : Agent) : Type 0 where
   pub registers : (i : ℕ) → namesRegister row i ≡ false → reg b i ≡ reg a i
   pub size : length (b .regs) ≡ length (a .regs)
@@ -137,7 +137,7 @@ raises sequenceMark i = eqb i cptSeq
 raises sequenceFall i = eqb i cptSeq
 raises oneTaken i = false
 
--- what the parts named are in b
+-- what the named parts are in b
 pub record Makes (row : Change) (a b : Agent) : Type 0 where
   pub status : reg b statut ≡ statusBy row (reg a statut)
   pub counters : (i : ℕ) → raises row i ≡ true → reg b i ≡ counter (reg a i)
@@ -152,7 +152,7 @@ pub record Makes (row : Change) (a b : Agent) : Type 0 where
 abbrev pub readOf : List ℕ → Read
 readOf body = agentRead (readBody body .addr) (take (readBody body .len) (readBody body .bytes))
 
--- whether it is a sync (TYP 00h), and whether that comes in RUN
+-- whether it is a sync (TYP 00h), and whether the sync comes in RUN
 abbrev pub isSync : Frame → Bool
 isSync f = eqb (getD (numbers (headOf f)) 0 0) 0x00
 
@@ -170,8 +170,9 @@ bringsSync (frame port body room) = readsSync (readOf body)
 abbrev pub syncInRun : Agent → Call → Bool
 syncInRun a call = bringsSync call && running a
 
--- its number is one of the table, nothing is sent, the reply buffer is untouched, the agent is the one of the number's row;
--- that is the agent before but for the parts that the row names, and these are as the row says where there are 256 registers
+-- its number is in the table, nothing is sent, the reply buffer is untouched, and the agent is the one that the
+-- number's row gives: it is as before except for the parts that the row names, and these are as the row says if there
+-- are 256 registers
 pub record Refused (a : Agent) (call : Call) (o : Outcome) : Type 0 where
   pub number : isRefusal (o .answer) ≡ true
   pub silent : o .line ≡ []

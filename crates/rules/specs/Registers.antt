@@ -58,7 +58,7 @@ outputsAt = 0x80
 abbrev pub inputsAt : ℕ
 inputsAt = 0xC0
 
--- how many outputs and inputs there are
+-- how many outputs, and how many inputs, there are
 abbrev pub image : ℕ
 image = 64
 
@@ -67,7 +67,7 @@ unfoldable pub lowBytes : ℕ → ℕ → List ℕ
 lowBytes zero n = []
 lowBytes (suc w) n = n % 256 ∷ lowBytes w (n / 256)
 
--- the number in the w registers from i on
+-- the number in the w registers starting at i
 unfoldable pub lowNumber : List ℕ → ℕ → ℕ → ℕ
 lowNumber r i zero = 0
 lowNumber r i (suc w) = getD r i 0 + lowNumber r (i + 1) w * 256

@@ -17,7 +17,7 @@ use Rattle.rules.specs.declared.Deed.{Deed}
 use Rattle.rules.specs.declared.Reply.{Reply}
 use Rattle.rules.specs.declared.Reply.the-variants.{Silent, Says}
 
--- what a call does in the end: what was sent is the bytes on the line, none for nothing
+-- what a call does in the end; `line` is the bytes that were sent, none if nothing was
 pub record Outcome : Type 0 where
   pub answer : ℕ
   pub agent : Agent
@@ -59,11 +59,11 @@ readReply port a src seq datl add =
 unfoldable pub acknowledges : Agent → ℕ → ℕ → Deed
 acknowledges a src sec = replies a (Acknowledgement (sidOf a) src sec (lowNumber (a .regs) macAt 8))
 
--- replies go to F0h; after a sent reply STATUT keeps only bit 7; with CONF bit 2 set nothing is sent, effects remain
+-- replies go to F0h; after a sent reply STATUT keeps only bit 7; with CONF bit 2 set nothing is sent, but effects remain
 abbrev pub muted : Agent → Bool
 muted a = eqb (bitAnd (reg a conf) 0x04) 0x04
 
--- the data bytes of a reply: DATL registers from ADD on, where 19h shows STAT
+-- the data bytes of a reply: DATL registers starting at ADD; 19h shows STAT
 abbrev pub replyData : Agent → Frame → List ℕ
 replyData a (SafeResponse dest src cyc seq kind datl add stat) = take datl (drop add (set (a .regs) statut stat))
 replyData a (Sync src cyc) = []

@@ -13,7 +13,7 @@ use Rattle.rules.specs.Writes.{onWrite}
 use Rattle.rules.specs.declared.Agent.{Agent}
 use Rattle.rules.specs.declared.Deed.{Deed}
 
--- the most requests a cycle
+-- the most requests taken in a cycle
 abbrev pub mostTaken : ℕ
 mostTaken = 64
 
@@ -21,7 +21,7 @@ mostTaken = 64
 abbrev pub firstSeq : ℕ → ℕ
 firstSeq cyc = (255 - cyc + 1) % 256
 
--- d = SEQ minus that first, modulo 256
+-- d = SEQ minus the first SEQ, modulo 256
 unfoldable pub distance : ℕ → ℕ → ℕ
 distance seq cyc = (seq + 256 - firstSeq cyc) % 256
 
@@ -34,7 +34,7 @@ abbrev pub onAsk : ℕ → Agent → ℕ → ℕ → Ask → Deed
 onAsk port a src seq (reads datl add) = readReply port a src seq datl add
 onAsk port a src seq (writes add xs) = onWrite a add xs
 
--- by the distance: below k is a repeat, above k is out of order; a due one raises k even if its write is then refused
+-- by the distance: below k is a repeat, above k is out of order; a request that is due raises k even if its write is then refused
 unfoldable pub onDistance : ℕ → Agent → ℕ → ℕ → ℕ → Ask → Deed
 onDistance port a src seq d ask =
     choose (ltb d (a .taken)) (does repeat a)
@@ -42,7 +42,7 @@ onDistance port a src seq d ask =
     (choose (leb mostTaken (a .taken)) (does tooMany a)
     (onAsk port (withTaken (d + 1) a) src seq ask)))
 
--- 10: the source is that of the last accepted sync; 11: the own SID; 12: the cycle is heard and CYC = c
+-- 10 unless the source is that of the last accepted sync; 11 unless DEST is the own SID; 12 unless the cycle is heard and CYC = c
 unfoldable pub onRequest : ℕ → Agent → ℕ → ℕ → ℕ → ℕ → Ask → Deed
 onRequest port a dest src cyc seq ask =
     choose (eqb src nobody || not (eqb src (a .last))) (does source a)

@@ -1,4 +1,4 @@
--- A state is sound if .. (document 01, "Who causes which number"), part by part. Assumes nothing.
+-- When a state is sound (document 01, "Who causes which number"), part by part. Assumes nothing.
 use mathlib.Core.Bool.{Bool, true, not, _&&_, _||_, Bool·beq}
 use mathlib.Core.List.{List}
 use Prim.Native.Nat.{ℕ, zero, suc, _+_, _*_}
@@ -19,13 +19,13 @@ settingsSound a =
     not (eqb (tOf a) 0) && not (eqb (nOf a) 0) && not (eqb (mOf a) 0) && (eqb (reg a outRep) released || eqb (reg a outRep) withheld)
     && (eqb (reg a tidAt) 0x8F || assignable (reg a tidAt)) && eqb (reg a typAt) 0x82
 
--- the recorded are at most 8, distinct, none FFFFFFh, and none exactly when the SID is FFFFFFh
+-- at most 8 are recorded, all distinct, each below FFFFFFh; nobody is recorded exactly when the SID is FFFFFFh
 unfoldable pub sourcesSound : Agent → Bool
 sourcesSound a =
     leb (a .count) 8 && distinct (a .known) (a .count) && below24 (a .known) (a .count) && Bool·beq (eqb (a .count) 0) (eqb (sidOf a) nobody)
 
--- k is at most 64, e at most 254; the last source is a recorded one, or none and then the cycle is unheard;
--- flags have one of their two values
+-- k is at most 64, e at most 254; the last source is recorded, or there is none and the cycle is unheard; heard has one
+-- of its two values
 unfoldable pub countersSound : Agent → Bool
 countersSound a =
     leb (a .taken) mostTaken && leb (a .elapsed) 254 && (isRecorded a (a .last) || (eqb (a .last) nobody && eqb (a .heard) unheard))
@@ -36,13 +36,13 @@ unfoldable pub outputsZero : List ℕ → ℕ → Bool
 outputsZero r zero = true
 outputsZero r (suc n) = outputsZero r n && eqb (getD r (outputsAt + n) 0) 0
 
--- bits 7 and 6 of STATUT match mode and 0; in RUN OUT_REP is 55h, s below n × t, q below m × t and a last source is there
+-- in RUN: bits 7 and 6 of STATUT are 0, OUT_REP is 55h, s is below n × t, q below m × t, and there is a last source
 unfoldable pub runSound : Agent → Bool
 runSound a =
     eqb (a .mode) inRun && eqb (bitAnd (reg a statut) 0xC0) 0x00 && eqb (reg a outRep) released && ltb (a .silence) (nOf a * tOf a)
     && ltb (a .idle) (mOf a * tOf a) && not (eqb (a .last) nobody)
 
--- in fallback outputs and q are 0
+-- in fallback: bit 7 of STATUT is 1 and bit 6 is 0; outputs and q are 0
 unfoldable pub fallbackSound : Agent → Bool
 fallbackSound a =
     eqb (a .mode) inFallback && eqb (bitAnd (reg a statut) 0xC0) 0x80 && eqb (a .idle) 0 && outputsZero (a .regs) image

@@ -13,7 +13,7 @@ unfoldable pub holds : List ℕ → ℕ → ℕ → Bool
 holds l zero x = false
 holds l (suc n) x = holds l n x || eqb (getD l n 0) x
 
--- the first n are distinct, and none is FFFFFFh or more
+-- the first n are distinct; none of them is FFFFFFh or more
 unfoldable pub distinct : List ℕ → ℕ → Bool
 distinct l zero = true
 distinct l (suc n) = distinct l n && not (holds l n (getD l n 0))
@@ -25,7 +25,7 @@ below24 l (suc n) = below24 l n && ltb (getD l n 0) nobody
 unfoldable pub isRecorded : Agent → ℕ → Bool
 isRecorded a x = holds (a .known) (a .count) x
 
--- one more
+-- one more is recorded
 unfoldable pub recorded : ℕ → Agent → Agent
 recorded x a = withKnown (set (a .known) (a .count) x) (a .count + 1) a
 

@@ -1,5 +1,5 @@
--- The state beside its registers, and the state with some fields changed. Only these and power-up name every field.
--- Assumes nothing.
+-- The state apart from its registers, and the state with some fields changed (`withRegs` and so on). Only these and
+-- power-up name every field. Assumes nothing.
 use mathlib.Core.Bool.{Bool}
 use mathlib.Core.List.{List, [], _∷_}
 use Prim.Native.Nat.{ℕ}
@@ -83,7 +83,7 @@ abbrev pub withKnown : List ℕ → ℕ → Agent → Agent
 withKnown l n a =
     record { regs = a .regs; known = l; last = a .last; silence = a .silence; idle = a .idle; cycle = a .cycle; elapsed = a .elapsed; taken = a .taken; mode = a .mode; heard = a .heard; count = n }
 
--- one register, and some from a place on
+-- one register stored, and several starting at i
 abbrev pub store : ℕ → ℕ → Agent → Agent
 store i x a = withRegs (sets (a .regs) i (x ∷ [])) a
 

@@ -13,7 +13,7 @@ use Rattle.rules.specs.State.{isHeard, nobody, running, reg, withCycle, 
 use Rattle.rules.specs.declared.Agent.{Agent}
 use Rattle.rules.specs.declared.Deed.{Deed}
 
--- a repeat: heard, CYC = c and the same source as the last
+-- a repeat: heard, CYC = c and the same source as the last accepted sync
 abbrev pub isRepeat : Agent → ℕ → ℕ → Bool
 isRepeat a src cyc = eqb (a .heard) isHeard && eqb cyc (a .cycle) && eqb src (a .last)
 
@@ -25,11 +25,11 @@ cycleFits a cyc = eqb cyc ((a .cycle + 1) % 256) || (not (eqb (a .heard) isHeard
 unfoldable pub heardSync : ℕ → ℕ → Agent → Agent
 heardSync src cyc a = withSync src 0 (withCycle cyc isHeard 0 0 a)
 
--- and in fallback with OUT_REP 55h the mode becomes RUN
+-- the same, and in fallback with OUT_REP 55h the mode becomes RUN
 unfoldable pub synced : ℕ → ℕ → Agent → Agent
 synced src cyc a = choose (not (running a) && eqb (reg a outRep) released) (enterRun (heardSync src cyc a)) (heardSync src cyc a)
 
--- 10, then 13 before 12; 12 in RUN only, and then fallback
+-- 10, then 13 before 12; 12 comes in RUN only, and leads to fallback
 unfoldable pub onSync : ℕ → Agent → ℕ → ℕ → Deed
 onSync port a src cyc =
     choose (eqb src nobody || not (isRecorded a src)) (does source a)

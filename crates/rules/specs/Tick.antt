@@ -17,14 +17,14 @@ counted a =
     withClock (a .elapsed + 1) (choose (ltb (a .silence) silenceEnd) (a .silence + 1) silenceEnd)
     (choose (running a) (a .idle + 1) (a .idle)) a
 
--- s at least n × t, and q at least m × t in RUN
+-- s is at least n × t; in RUN, q is at least m × t
 abbrev pub syncLimit : Agent → Bool
 syncLimit a = leb (nOf a * tOf a) (a .silence)
 
 abbrev pub commandLimit : Agent → Bool
 commandLimit a = running a && leb (mOf a * tOf a) (a .idle)
 
--- fallback at the one limit, in either mode, or else at the other
+-- fallback at the sync limit, in either mode, or else at the command limit
 unfoldable pub limited : Agent → Agent
 limited a = choose (syncLimit a) (enterFallback a) (choose (commandLimit a) (enterFallback a) a)
 

@@ -1,4 +1,4 @@
--- Write: which spans, in which mode, with which values, and to what effect. Assumes nothing.
+-- Write: which spans, in which mode, with which values, and with what effect. Assumes nothing.
 use mathlib.Core.Bool.{Bool, true, false, not, _&&_, _||_}
 use mathlib.Core.List.{List}
 use Prim.Native.Nat.{ℕ, _+_}
@@ -27,7 +27,7 @@ spanAt add =
     (choose (within 0x80 0xBF add) Outputs
     Outside)))))
 
--- the register behind it
+-- the register after the span's last
 abbrev pub spanEnd : Span → ℕ
 spanEnd Release = 0x18
 spanEnd CycleTime = 0x19
@@ -41,8 +41,8 @@ spanEnd Outside = 0x00
 unfoldable pub spanOf : ℕ → ℕ → Span
 spanOf add n = choose (leb 1 n && leb (add + n) (spanEnd (spanAt add))) (spanAt add) Outside
 
--- 17h takes 55h or AAh; 18h not 0; of 1Ah to 1Dh the first two must not become 0; 18h and 1Ah to 1Dh only in fallback,
--- 80h to BFh only in RUN
+-- 17h must become 55h or AAh, 18h not 0; of 1Ah to 1Dh the first two must not become 0; 18h and 1Ah to 1Dh only in
+-- fallback, 80h to BFh only in RUN
 abbrev pub allowed : Span → Agent → ℕ → List ℕ → Bool
 allowed Release a add xs = eqb (getD xs 0 0) released || eqb (getD xs 0 0) withheld
 allowed CycleTime a add xs = not (running a) && not (eqb (getD xs 0 0) 0)

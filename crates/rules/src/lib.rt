@@ -3,11 +3,11 @@
 use frame_kinds::kinds::Frame;
 ghost use mathlib.Core.Path.{_≡_};
 
-// Plain unsigned numbers and arrays only: every bit pattern that a host hands in is a value, and soundness decides.
+// Unsigned numbers and arrays only: every bit pattern that a host passes in is a value, and the test for soundness decides.
 #[repr(C)]
 pub struct Agent {
     pub regs: [u8; 256],
-    // the recorded concentrators, the first `count` of them
+    // the recorded concentrators are the first `count` of these
     pub known: [u32; 8],
     // the source of the last accepted sync; FFFFFFh for none
     pub last: u32,
@@ -28,7 +28,7 @@ pub struct Agent {
     pub count: u8,
 }
 
-// The spans that can be written, each as a whole or in part.
+// The write spans; a write covers one of them or a part of it. `Outside` is none of them.
 pub enum Span {
     Release,
     CycleTime,
@@ -39,20 +39,20 @@ pub enum Span {
     Outside,
 }
 
-// What a frame would have the module send: nothing, or a frame.
+// What the module is to send because of a frame: nothing, or a frame.
 pub enum Reply {
     Silent,
     Says(Frame),
 }
 
-// What a frame does: the answer, the agent, and what it would send.
+// What a frame does: the answer, the agent afterwards, and what is to be sent.
 pub struct Deed {
     pub answer: u8,
     pub agent: Agent,
     pub reply: Reply,
 }
 
-// The same byte. A crate has at least one function.
+// Returns its argument: a crate must have at least one function.
 pub fn same(x: u8) -> u8
     ensures { λ r. ⌜ r ≡ x ⌝ }
 {

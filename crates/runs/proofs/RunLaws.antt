@@ -1,4 +1,4 @@
--- A run along the bytes of a list of calls: how far it has come, one call more, and its end. Assumes nothing.
+-- A run along the bytes of a list of calls: how far it has come, one more call, and its end. Assumes nothing.
 use mathlib.Core.List.{List, [], _∷_, _++_, append-assoc, append-nil}
 use mathlib.Core.Path.{_≡_, refl, sym, ap, ap₂, _∙_, subst}
 use Prim.Native.Nat.{ℕ, _+_, _*_, _≤_, _<_}

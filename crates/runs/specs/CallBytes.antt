@@ -1,4 +1,4 @@
--- A list of calls as bytes, so that code can be handed any list. Assumes nothing.
+-- A list of calls as bytes, so that any list can be passed to code. Assumes nothing.
 use mathlib.Core.List.{List, [], _∷_, _++_}
 use mathlib.Core.Path.{_≡_}
 use Prim.Native.Nat.{ℕ, _≤_, _<_}
@@ -31,7 +31,7 @@ bytesIn tick = []
 bytesIn (input xs) = xs
 bytesIn (frame port body room) = body
 
--- the call of such parts
+-- the call with these parts
 abbrev pub callOf : ℕ → ℕ → List ℕ → ℕ → Call
 callOf kind port bytes room = choose (eqb kind 0) tick (choose (eqb kind 1) (input bytes) (frame port bytes room))
 
@@ -49,7 +49,7 @@ abbrev pub listBytes : List Call → List ℕ
 listBytes [] = []
 listBytes (x ∷ xs) = callBytes x ++ listBytes xs
 
--- the code can make the call: its port is a byte, and the reply buffer that is lent has the room
+-- the code can make the call: its port is a byte, and the lent reply buffer is long enough
 abbrev pub Makable : ℕ → Call → Type 0
 Makable room x = (portOf x < 256) × (roomOf x ≤ room)
 
@@ -57,7 +57,7 @@ abbrev pub AllMakable : ℕ → List Call → Type 0
 AllMakable room [] = Unit {0}
 AllMakable room (x ∷ xs) = Makable room x × AllMakable room xs
 
--- a step along the bytes s: it makes the call that stands at the place, and comes to the place after it
+-- a step along the bytes s: it makes the call at index `at`, and goes on to the index after it
 pub record Stepped (s : List ℕ) (at room : ℕ) (a : Agent) (answer : ℕ) (b : Agent) (next : ℕ) : Type 0 where
   pub further : at < next
   pub within : next ≤ length s

@@ -1,5 +1,5 @@
--- What a run of the code writes down, the history that is read off it, and the promise of a run over a whole list of calls.
--- Assumes nothing.
+-- The log that a run of the code writes, the history read off the log, and the promise of a run over a whole list of
+-- calls. Assumes nothing.
 use mathlib.Core.List.{List, [], _∷_}
 use mathlib.Core.Path.{_≡_}
 use Prim.Native.Nat.{ℕ, _+_, _*_, _≤_}
@@ -19,11 +19,11 @@ recordOf answer a = answer ∷ a .mode ∷ a .regs
 abbrev pub recordSize : ℕ
 recordSize = 258
 
--- what may be seen of the agent, by the log from a record on
+-- what may be seen of the agent, by the record at the start of l
 abbrev pub seenIn : List ℕ → Seen
 seenIn l = seenOf (getD l 1 0) (take 256 (drop 2 l))
 
--- the history of a list of calls as the log has it, from the record before the first call on
+-- the history of a list of calls by the log, which starts with the record before the first call
 abbrev pub logged : History → List Call → List ℕ → History
 logged h [] l = h
 logged h (x ∷ xs) l =
@@ -36,7 +36,7 @@ pub record Ran (calls : List Call) (a : Agent) (log : List ℕ) : Type 0 where
   pub sharper : Sharper (logged powerOn calls log)
   pub reached : Reached (logged powerOn calls log) a
 
--- so for every list of calls that the bytes s stand for, with a reply buffer that has the room and a log of so many places
+-- this holds for every list of calls that the bytes s stand for, with a reply buffer and a log that are long enough
 abbrev pub RunsAny : (s : List ℕ) (room places : ℕ) (a : Agent) (log : List ℕ) → Type 0
 RunsAny s room places a log =
     (calls : List Call) → s ≡ listBytes calls → AllMakable room calls → recordSize + recordSize * length calls ≤ places → Ran calls a log

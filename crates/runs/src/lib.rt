@@ -1,5 +1,5 @@
-// Any list of calls, handed in as bytes and made one after the other from power-up, each on the agent that the one before
-// left; what each answered and left is written down. Of the calls only their promises are known.
+// Any list of calls, passed in as bytes and made one after another from power-up, each on the agent that the one before
+// left; what each answered and left is written down. Of the calls only their contracts are used.
 ghost use lib.ListN.{length};
 ghost use Rattle.runs.specs.Log.{RunsAny};
 use crate::logging::RECORD;

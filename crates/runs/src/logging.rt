@@ -7,10 +7,10 @@ ghost use Rattle.runs.specs.Log.{recordOf, recordSize};
 use base::copy_at;
 use rules::Agent;
 
-// The bytes of a record.
+// The length of a record, in bytes.
 pub const RECORD: usize = 258;
 
-// A record; the next place.
+// Writes a record at index `at`; returns the next index.
 pub fn put(answer: u8, a: Agent, log: &mut [u8], at: usize) -> usize
     requires { ⌜ at + recordSize ≤ length (now log) ⌝ }
     ensures { λ r. ⌜ (r ≡ at + recordSize) × (length (a .regs) ≡ 256) × (now (log .exit) ≡ sets (now (log .entry)) at (recordOf answer a)) ⌝ }

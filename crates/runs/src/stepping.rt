@@ -1,4 +1,4 @@
-// The call that stands at a place of the bytes.
+// The call that the bytes hold at an index.
 ghost use mathlib.Core.Path.{_≡_};
 ghost use Prim.Native.Nat.{_<_};
 ghost use lib.ListN.{length};
@@ -9,7 +9,7 @@ use fields::byte_field;
 use fields::field;
 use rules::Agent;
 
-// The call of such parts: 0 a tick, 1 inputs, any other number a frame.
+// Makes the call with these parts: kind 0 is a tick, 1 inputs, any other a frame.
 fn call(a: Agent, kind: u8, port: u8, bytes: &[u8], reply: &mut [u8]) -> Told
     ensures { λ r. ⌜ Continues a (callOf kind port (now (bytes .entry)) (length (now (reply .entry)))) (r .answer) (r .agent) ⌝ }
 {
@@ -27,17 +27,17 @@ fn call(a: Agent, kind: u8, port: u8, bytes: &[u8], reply: &mut [u8]) -> Told
     }
 }
 
-// The answer, the agent, and the place of the next call.
+// The answer, the agent afterwards, and the index of the next call.
 pub struct Made {
     pub answer: u8,
     pub agent: Agent,
     pub next: usize,
 }
 
-// The bytes before a call's own: kind, port, room (8), length (8).
+// The length of a call's heading: kind (1), port (1), room (8), length (8).
 const HEADING: usize = 18;
 
-// Nothing is called: the agent as it is, and the place after the last byte.
+// No call is made: the agent stays as it is, and the next index is the end of the bytes.
 fn no_call(a: Agent, end: usize) -> Made
     ensures { λ r. ⌜ (r .answer ≡ 0) × (r .agent ≡ a) × (r .next ≡ end) ⌝ }
 {
@@ -48,7 +48,8 @@ fn no_call(a: Agent, end: usize) -> Made
     }
 }
 
-// The call at a place, with the part of the reply buffer that it has room for. What is no call is passed over, to the end.
+// Makes the call at index `at`, with as much of the reply buffer as it asks for. If the bytes hold no whole call there,
+// or the reply buffer is too short for it, everything to the end is skipped.
 pub fn step(a: Agent, s: &[u8], at: usize, reply: &mut [u8]) -> Made
     requires { ⌜ at < length (now s) ⌝ }
     ensures { λ r. ⌜ Stepped (now (s .entry)) at (length (now (reply .entry))) a (r .answer) (r .agent) (r .next) ⌝ }

@@ -1,4 +1,4 @@
-// Plays a script from standard input to a module, and prints a line of four fields for each.
+// Plays a script from standard input on a module, and prints four fields for each line.
 use script::View;
 
 fn main() {

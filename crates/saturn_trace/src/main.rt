@@ -1,4 +1,4 @@
-// Plays a script as saturn_script does, and shows the reply and the registers besides.
+// Plays a script as saturn_script does, and also prints the reply and the registers.
 use script::View;
 
 fn main() {

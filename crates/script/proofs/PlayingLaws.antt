@@ -1,4 +1,4 @@
--- Laws of a script's lines: the player behind one, and its text. Assumes nothing.
+-- Laws of a script's lines: the player after one, and its text. Assumes nothing.
 use mathlib.Core.Path.{_≡_, ap, _∙_}
 use mathlib.Core.Bool.{Bool}
 use mathlib.Core.List.{List}

@@ -1,4 +1,4 @@
--- Laws of what is printed: how long each part is, and one part behind another. Assumes nothing.
+-- Laws of what is printed: how long each part is, and one part after another. Assumes nothing.
 use mathlib.Core.Path.{_≡_, refl, sym, ap, _∙_}
 use mathlib.Core.Bool.{Bool, true, false}
 use mathlib.Core.List.{List, [], _∷_, _++_, append-nil}

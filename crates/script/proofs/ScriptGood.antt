@@ -1,4 +1,4 @@
--- The script's module is good behind every line, whatever the lines are: so every tick and every input is answered 0, as
+-- The script's module is good after every line, whatever the lines are: so every tick and every input is answered 0, as
 -- the definition prints it, and no line prints 19. Assumes nothing.
 use mathlib.Core.Path.{_≡_}
 use mathlib.Core.List.{List, [], _∷_}

@@ -23,7 +23,7 @@ after p s = record { agent = done (p .agent) s .agent; lines = numberOf p }
 abbrev pub shown : View → Player → Step → List ℕ
 shown view p s = printed view (numberOf p) (isBad s) (done (p .agent) s)
 
--- as a program that answers lines: the header first, and what is shown of each
+-- as a program that answers lines: the header first, then what is shown for each
 abbrev pub scripted : View → Program Player
 scripted view = record {
   start = start;

@@ -26,7 +26,7 @@ abbrev pub scriptHeader : List ℕ
 scriptHeader =
     0x4C ∷ 0x49 ∷ 0x4E ∷ 0x45 ∷ 0x20 ∷ 0x41 ∷ 0x4E ∷ 0x53 ∷ 0x57 ∷ 0x45 ∷ 0x52 ∷ 0x20 ∷ 0x4D ∷ 0x4F ∷ 0x44 ∷ 0x45 ∷ 0x20 ∷ 0x43 ∷ 0x59 ∷ 0x43 ∷ []
 
--- REPLY REGISTERS, behind a space
+-- a space and REPLY REGISTERS
 abbrev pub traceHeader : List ℕ
 traceHeader =
     0x20 ∷ 0x52 ∷ 0x45 ∷ 0x50 ∷ 0x4C ∷ 0x59 ∷ 0x20 ∷ 0x52 ∷ 0x45 ∷ 0x47 ∷ 0x49 ∷ 0x53 ∷ 0x54 ∷ 0x45 ∷ 0x52 ∷ 0x53 ∷ []
@@ -43,7 +43,7 @@ badText n = decimalText n ++ (0x20 ∷ 0x42 ∷ 0x41 ∷ 0x44 ∷ 0x0A ∷ [])
 unfoldable pub answerText : ℕ → ℕ → List ℕ
 answerText n answer = (decimalText n ++ space) ++ decimalText answer
 
--- F or R, c as two capital hex digits, each behind a space
+-- F or R, c as two capital hex digits, a space before each
 abbrev pub modeText : Agent → List ℕ
 modeText a = choose (running a) (0x20 ∷ 0x52 ∷ 0x20 ∷ []) (0x20 ∷ 0x46 ∷ 0x20 ∷ [])
 
@@ -54,7 +54,7 @@ stateText a = modeText a ++ hexDigits (a .cycle)
 abbrev pub replyText : List ℕ → List ℕ
 replyText line = choose (eqb (length line) 0) (0x2D ∷ []) (hexText line)
 
--- the trace's reply and registers, each behind a space
+-- the trace's reply and registers, a space before each
 unfoldable pub traceText : List ℕ → List ℕ → List ℕ
 traceText line regs = ((space ++ replyText line) ++ space) ++ hexText regs
 
@@ -69,6 +69,6 @@ unfoldable pub printed : View → ℕ → Bool → Outcome → List ℕ
 printed view n isBad o = choose isBad (badText n) (fieldsText view n o)
 
 -- ---- the steps of the code
--- a text that is put whole
+-- a text put whole
 abbrev pub Wrote : List ℕ → ℕ → List ℕ → ℕ → List ℕ → Type 0
 Wrote buf at text r out = (r ≡ at + length text) × (out ≡ sets buf at text)

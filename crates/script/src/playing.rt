@@ -26,7 +26,7 @@ pub struct Player {
     pub lines: u64,
 }
 
-// The player behind a line, and the place behind the line's text.
+// The player after a line, and the index after the line's text.
 pub struct Played {
     pub player: Player,
     pub next: usize,
@@ -40,7 +40,7 @@ pub fn start() -> Player
     Player { agent, lines: 0 }
 }
 
-// The text of a line put at a place of the output, whole or not at all.
+// Puts the text of a line at index `at` of the output, whole or not at all; returns the next index.
 fn show(
     out: &mut [u8],
     at: usize,
@@ -81,7 +81,7 @@ fn play_form(
     Played { player, next }
 }
 
-// A line of `len` characters, of which the buffer keeps the first; its text goes to a place of the output.
+// Plays a line of `len` characters, of which the buffer keeps the first; its text goes to index `at` of the output.
 pub fn play_line(
     p: Player,
     view: View,

@@ -1,4 +1,4 @@
-// What is printed for a line, put together in a buffer that has room for the longest.
+// What is printed for a line, put together in a buffer that has room for the longest text.
 ghost use mathlib.Core.Path.{_≡_};
 ghost use Prim.Native.Nat.{_+_, _≤_};
 ghost use lib.ListN.{length, take, replicate};
@@ -12,7 +12,7 @@ use text::putting::put_byte;
 use text::putting::put_bytes;
 use text::putting::put_text;
 
-// The four fields of a script, or with them the reply and the registers.
+// The four fields of saturn-script; or, with them, the reply and the registers.
 pub enum View {
     Script,
     Trace,
@@ -27,7 +27,7 @@ pub fn no_text() -> [u8; 1700]
     [0; 1700]
 }
 
-// The header; the next place.
+// Puts the header at index `at`; returns the next index.
 pub fn put_header(buf: &mut [u8], at: usize, view: View) -> usize
     ensures { λ r. ⌜ (r ≡ placeAfter (length (now (buf .entry))) at (headerOf view)) × (now (buf .exit) ≡ putAt (now (buf .entry)) at (headerOf view)) ⌝ }
 {
@@ -88,7 +88,7 @@ fn put_trace(buf: &mut [u8], at: usize, reply: &[u8], sent: usize, regs: &[u8]) 
     put_bytes(buf, c, regs)
 }
 
-// What the trace shows besides.
+// What the trace shows in addition.
 fn put_view(buf: &mut [u8], at: usize, view: View, h: Handled, reply: &[u8]) -> usize
     requires { ⌜ (h .sent ≤ length (now reply)) × (h .sent ≤ 545) × (at + 1605 ≤ length (now buf)) ⌝ }
     ensures { λ r. ⌜ Wrote (now (buf .entry)) at (viewText view (told h (now (reply .entry)))) r (now (buf .exit)) ⌝ }
@@ -115,7 +115,7 @@ fn put_fields(buf: &mut [u8], view: View, number: u64, h: Handled, reply: &[u8])
     put_text(buf, c, b"\n")
 }
 
-// A line that is bad.
+// The text for a bad line.
 fn put_bad(buf: &mut [u8], number: u64) -> usize
     requires { ⌜ 1700 ≤ length (now buf) ⌝ }
     ensures { λ r. ⌜ Wrote (now (buf .entry)) 0 (badText number) r (now (buf .exit)) ⌝ }
@@ -124,7 +124,7 @@ fn put_bad(buf: &mut [u8], number: u64) -> usize
     put_text(buf, a, b" BAD\n")
 }
 
-// A line's text at the buffer's start; its length.
+// Puts a line's text at the buffer's start; returns its length.
 pub fn put_line(
     buf: &mut [u8],
     view: View,

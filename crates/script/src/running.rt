@@ -1,4 +1,4 @@
-// Standard input, line by line, to standard output.
+// A script from standard input, line by line, and its text to standard output.
 ghost use mathlib.Core.Path.{_≡_};
 ghost use mathlib.Core.Bool.{true};
 ghost use Rattle.console.specs.Answering.{Whole};
@@ -11,7 +11,7 @@ use console::blocks;
 use console::lines;
 use console::lines::Cursor;
 
-// The header, and the text of every line: it is handed on where the output is full, and its end stands there.
+// The header, and the text of every line. It is handed on when the output is full; its end is still in the output on return.
 fn play_all(
     view: View,
     block: &mut [u8; 65536],

@@ -1,4 +1,4 @@
--- Laws of the forms of a line: what reading hex digits gave, and a law for each way. Assumes nothing.
+-- Laws of the forms of a line: what reading hex digits gave, and a law for each case. Assumes nothing.
 use mathlib.Core.Path.{_≡_, refl, sym, ap, _∙_}
 use mathlib.Core.Bool.{Bool, true, false}
 use mathlib.Core.List.{List, [], _∷_, _++_}

@@ -14,7 +14,7 @@ unfoldable pub afterTicks : ℕ → Agent → Agent
 afterTicks zero a = a
 afterTicks (suc n) a = afterTicks n (tickCall a .agent)
 
--- for ticks and inputs the answer is 0; other lines change nothing
+-- for ticks and inputs the answer is 0; a bad line changes nothing
 abbrev pub done : Agent → Step → Outcome
 done a (ticks n) = outcome accepted (afterTicks n a)
 done a (frame port body) = frameCall a port body leastRoom
@@ -22,6 +22,6 @@ done a (inputs xs) = outcome accepted (inputCall a xs .agent)
 done a bad = outcome accepted a
 
 -- ---- the steps of the code
--- what a call handed back, with the reply buffer beside it
+-- what a call returned, together with the reply buffer
 abbrev pub told : Handled → List ℕ → Outcome
 told h reply = record { answer = h .answer; agent = h .agent; line = take (h .sent) reply }

@@ -42,7 +42,7 @@ abbrev pub inputsOf : Option (List ℕ) → Step
 inputsOf none = bad
 inputsOf (some xs) = choose (eqb (length xs) 64) (inputs xs) bad
 
--- by the first character, and what stands behind the space
+-- by the first character and what follows the space
 unfoldable pub formOf : ℕ → List ℕ → Step
 formOf c rest =
     choose (eqb c 0x54) (ticksOf (decimalOf mostTicks rest))
@@ -50,18 +50,18 @@ formOf c rest =
     (choose (eqb c 0x49) (inputsOf (hexPairs rest))
     bad))
 
--- other lines, or over 1,200 characters, are bad
+-- other lines, and lines over 1,200 characters, are bad
 unfoldable pub lineOf : List ℕ → Step
 lineOf s =
     choose (ltb longest (length s)) bad
     (choose (eqb (getD s 1 0) 0x20) (formOf (getD s 0 0) (drop 2 s)) bad)
 
--- a line of len characters, of which a buffer keeps the first; one that it does not hold is bad
+-- a line of len characters, of which a buffer keeps the first; if it does not hold them all, the line is bad
 unfoldable pub lineIn : List ℕ → ℕ → Step
 lineIn line len = choose (ltb (length line) len) bad (lineOf (take len line))
 
 -- ---- the steps of the code
--- a form with the bytes beside it
+-- a form together with its bytes
 abbrev pub stepIn : Form → List ℕ → Step
 stepIn (Ticks n) bytes = ticks n
 stepIn (Frame port n) bytes = frame port (take n bytes)

@@ -13,7 +13,7 @@ use agent_state::answers::ACCEPTED;
 use console::blocks::least;
 use rules::Agent;
 
-// A reply buffer of the least length that the frame call takes.
+// An empty reply buffer of the minimum length.
 pub fn no_reply() -> [u8; 545]
     ensures { λ r. ⌜ r ≡ replicate 545 0 ⌝ }
 {
@@ -41,7 +41,7 @@ fn inputs(a: Agent, bytes: &[u8]) -> Agent
     next.agent
 }
 
-// What is accepted and sends nothing.
+// Accepted, with nothing sent.
 fn accepted(a: Agent) -> Handled
     ensures { λ r. ⌜ (r .answer ≡ 0) × (r .agent ≡ a) × (r .sent ≡ 0) ⌝ }
 {
@@ -59,7 +59,7 @@ fn frame(a: Agent, port: u8, bytes: &[u8], n: usize, reply: &mut [u8; 545]) -> H
     calls::frame(a, port, &bytes[..end], reply)
 }
 
-// A line's form with the bytes beside it; the reply stands in the buffer.
+// Does what a line asks for, with the bytes of the line; the reply is left in the buffer.
 pub fn do_form(a: Agent, form: Form, bytes: &[u8], reply: &mut [u8; 545]) -> Handled
     ensures { λ r. ⌜ (r .sent ≤ 545) × (told r (now (reply .exit)) ≡ done a (stepIn form (now (bytes .entry)))) ⌝ }
 {

@@ -10,7 +10,7 @@ use text::decimal::read_decimal;
 use text::hex::Hex;
 use text::hex::hex_bytes;
 
-// What a line asks for: so many ticks; a body of so many bytes on a port; inputs. The bytes stand beside it.
+// What a line asks for: a number of ticks; a body on a port, by its length; inputs. The bytes are kept in a buffer of their own.
 pub enum Form {
     Ticks(u64),
     Frame(u8, usize),
@@ -22,7 +22,7 @@ const LONGEST: usize = 1200;
 
 const MOST_TICKS: u32 = 60000;
 
-// The bytes of one call of inputs.
+// The number of inputs in a call.
 pub const IMAGE: usize = 64;
 
 // Room for the bytes of the longest line.
@@ -32,7 +32,7 @@ pub fn no_bytes() -> [u8; 600]
     [0; 600]
 }
 
-// A number of ticks behind the space.
+// The number of ticks after the space.
 fn read_ticks(text: &[u8]) -> Form
     ensures { λ r. ⌜ r ≡ ticksForm (decimalOf 60000 (drop 2 (now (text .entry)))) ⌝ }
 {
@@ -42,7 +42,7 @@ fn read_ticks(text: &[u8]) -> Form
     }
 }
 
-// A body behind the space.
+// The body after the space.
 fn read_frame(text: &[u8], port: u8, bytes: &mut [u8; 600]) -> Form
     requires { ⌜ length (now text) ≤ 1200 ⌝ }
     ensures { λ r. ⌜ stepIn r (now (bytes .exit)) ≡ frameOf port (hexPairs (drop 2 (now (text .entry)))) ⌝ }
@@ -54,7 +54,7 @@ fn read_frame(text: &[u8], port: u8, bytes: &mut [u8; 600]) -> Form
     }
 }
 
-// Inputs behind the space.
+// The inputs after the space.
 fn read_inputs(text: &[u8], bytes: &mut [u8; 600]) -> Form
     requires { ⌜ length (now text) ≤ 1200 ⌝ }
     ensures { λ r. ⌜ stepIn r (now (bytes .exit)) ≡ inputsOf (hexPairs (drop 2 (now (text .entry)))) ⌝ }
@@ -105,7 +105,7 @@ fn read_text(text: &[u8], bytes: &mut [u8; 600]) -> Form
     read_form(text[0], text, bytes)
 }
 
-// A line of `len` characters, of which the buffer keeps the first.
+// A line of `len` characters; if the buffer does not hold them all, the line is bad.
 pub fn read_line(line: &[u8], len: usize, bytes: &mut [u8; 600]) -> Form
     ensures { λ r. ⌜ stepIn r (now (bytes .exit)) ≡ lineIn (now (line .entry)) len ⌝ }
 {

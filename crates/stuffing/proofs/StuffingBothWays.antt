@@ -1,4 +1,4 @@
--- Unstuffing undoes stuffing, and a stuffed part that is read is the stuffing of what was read and of nothing else.
+-- Unstuffing undoes stuffing, and stuffed bytes that are read are exactly the stuffing of what was read.
 -- Assumes nothing.
 use mathlib.Core.Path.{_≡_, refl, ap, _∙_}
 use mathlib.Core.Bool.{Bool, true, false}

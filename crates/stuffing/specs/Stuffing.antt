@@ -1,4 +1,4 @@
--- Stuffing, and what a stuffed part means. Assumes nothing.
+-- Stuffing, and what stuffed bytes mean. Assumes nothing.
 use mathlib.Core.Bool.{Bool, true, false}
 use mathlib.Core.List.{List, [], _∷_, _++_}
 use mathlib.Core.Option.{Option, none, some}
@@ -19,7 +19,7 @@ unfoldable pub stuff : List ℕ → List ℕ
 stuff [] = []
 stuff (b ∷ bs) = stuffByte b ++ stuff bs
 
--- what a received byte means: behind an escape, and not
+-- what a received byte means: after an escape, and otherwise
 unfoldable pub meaningOf : Bool → ℕ → Meaning
 meaningOf true b = choose (eqb b 0x5E) (Plain 0x7E) (choose (eqb b 0x5D) (Plain 0x7D) Wrong)
 meaningOf false b = choose (eqb b 0x7E) Wrong (choose (eqb b 0x7D) Escape (Plain b))
@@ -28,13 +28,13 @@ abbrev pub prepend : ℕ → Option (List ℕ) → Option (List ℕ)
 prepend x none = none
 prepend x (some ys) = some (x ∷ ys)
 
--- a byte's meaning, before what the rest gives, which goes on escaped or not
+-- a byte's meaning, put before what the rest gives; the rest goes on escaped or not
 abbrev pub before : Meaning → (Bool → Option (List ℕ)) → Option (List ℕ)
 before (Plain b) rest = prepend b (rest false)
 before Escape rest = rest true
 before Wrong rest = none
 
--- an escape needs a byte behind it
+-- an escape must be followed by a byte
 abbrev pub atEnd : Bool → Option (List ℕ)
 atEnd true = none
 atEnd false = some []
@@ -43,11 +43,11 @@ unfoldable pub unstuffFrom : List ℕ → Bool → Option (List ℕ)
 unstuffFrom [] escaped = atEnd escaped
 unstuffFrom (b ∷ bs) escaped = before (meaningOf escaped b) (λ e. unstuffFrom bs e)
 
--- the bytes before stuffing; none where any 7Eh stands there, or a 7Dh not followed by 5Dh or 5Eh
+-- the bytes before stuffing; none if there is a 7Eh, or a 7Dh not followed by 5Dh or 5Eh
 unfoldable pub unstuff : List ℕ → Option (List ℕ)
 unstuff s = unstuffFrom s false
 
--- how the code holds that: the first 272 bytes, zeros behind them, and the count
+-- how the code holds that: the first 272 bytes, filled up with zeros, and the count
 abbrev pub plainOf : Option (List ℕ) → Unstuffed
 plainOf none = record { right = false; bytes = replicate 272 0; len = 0 }
 plainOf (some xs) = record { right = true; bytes = sets (replicate 272 0) 0 xs; len = length xs }

@@ -10,12 +10,12 @@ pub const FLAG: u8 = 0x7E;
 
 pub const ESCAPE: u8 = 0x7D;
 
-// What stands for a flag and for an escape, behind an escape.
+// What is sent after an escape: for a flag, and for an escape.
 pub const FLAG_SENT: u8 = 0x5E;
 
 pub const ESCAPE_SENT: u8 = 0x5D;
 
-// One byte, stuffed, at a place of the buffer; the next place.
+// Stores one byte, stuffed, at index `at`; returns the next index.
 fn put(dst: &mut [u8], at: usize, b: u8) -> usize
     requires { ⌜ at + length (stuffByte b) ≤ length (now dst) ⌝ }
     ensures { λ r. ⌜ (r ≡ at + length (stuffByte b)) × (now (dst .exit) ≡ sets (now (dst .entry)) at (stuffByte b)) ⌝ }
@@ -34,7 +34,7 @@ fn put(dst: &mut [u8], at: usize, b: u8) -> usize
     at + 1
 }
 
-// The source, stuffed, from a place of the buffer on; the next place.
+// Stores the source, stuffed, starting at index `from`; returns the next index.
 pub fn stuff_at(src: &[u8], dst: &mut [u8], from: usize) -> usize
     requires { ⌜ from + length (stuff (now src)) ≤ length (now dst) ⌝ }
     ensures { λ r. ⌜ (r ≡ from + length (stuff (now (src .entry)))) × (now (dst .exit) ≡ sets (now (dst .entry)) from (stuff (now (src .entry)))) ⌝ }
@@ -48,7 +48,7 @@ pub fn stuff_at(src: &[u8], dst: &mut [u8], from: usize) -> usize
     at
 }
 
-// How many bytes a byte takes when it is stuffed, and a slice.
+// How many bytes one byte becomes when it is stuffed.
 fn width(b: u8) -> usize
     ensures { λ r. ⌜ r ≡ length (stuffByte b) ⌝ }
 {
@@ -61,6 +61,7 @@ fn width(b: u8) -> usize
     1
 }
 
+// The same for a slice.
 pub fn stuffed_len(src: &[u8]) -> usize
     requires { ⌜ length (now src) ≤ 65535 ⌝ }
     ensures { λ r. ⌜ r ≡ length (stuff (now (src .entry))) ⌝ }
@@ -74,7 +75,7 @@ pub fn stuffed_len(src: &[u8]) -> usize
     n
 }
 
-// What a received byte means, behind an escape or not.
+// What a received byte means, after an escape or not.
 pub enum Meaning {
     Plain(u8),
     Escape,
@@ -109,7 +110,7 @@ pub struct Unstuffed {
     pub len: usize,
 }
 
-// None, since a byte stands wrong.
+// Nothing, because a byte is wrong.
 fn wrong() -> Unstuffed
     ensures { λ r. ⌜ r ≡ plainOf none ⌝ }
 {

@@ -1,4 +1,5 @@
--- Laws of hex digits: the ways of a digit and of a pair, a turn of each loop, and the answers of a reading. Assumes nothing.
+-- Laws of hex digits: the cases of a digit and of a pair, a turn of each loop, and the answers of a reading.
+-- Assumes nothing.
 use mathlib.Core.Path.{_≡_, refl, sym, ap, _∙_}
 use mathlib.Core.Bool.{Bool, true, false}
 use mathlib.Core.List.{List, [], _∷_}

@@ -1,4 +1,4 @@
--- Laws of text put at a place: what fits and what not, and a turn of the loop over bytes. Assumes nothing.
+-- Laws of text put at an index: what fits and what does not, and a turn of the loop over bytes. Assumes nothing.
 use mathlib.Core.Path.{_≡_, refl, sym, ap, ap₂, _∙_}
 use mathlib.Core.Bool.{Bool, true, false}
 use mathlib.Core.List.{List, [], _∷_, _++_}

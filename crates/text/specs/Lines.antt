@@ -12,12 +12,12 @@ unfoldable pub beforeEnd : List ℕ → List ℕ
 beforeEnd [] = []
 beforeEnd (c ∷ cs) = choose (eqb c 0x0A) [] (c ∷ beforeEnd cs)
 
--- a count of characters where there is room for so many: one more stands for all above
+-- a count of characters; one more than there is room for stands for any longer line
 unfoldable pub toldCount : ℕ → ℕ → ℕ
 toldCount room n = choose (ltb room n) (room + 1) n
 
--- a line of which there are len characters goes on at a place of a block: complete where an LF follows, with the place
--- behind it, else wanting more
+-- a line of len characters goes on at index `from` of a block: it is whole if an LF follows, with the index after the
+-- LF; else it goes on in the next block
 unfoldable pub lineEndOf : List ℕ → ℕ → ℕ → ℕ → LineEnd
 lineEndOf block from room len =
     choose (ltb (from + length (beforeEnd (drop from block))) (length block))

@@ -1,4 +1,4 @@
--- Text put at a place of a buffer: the whole of it where it fits, else nothing. Assumes nothing.
+-- Text put at an index of a buffer: whole if it fits, else not at all. Assumes nothing.
 use mathlib.Core.List.{List, [], _∷_, _++_}
 use Prim.Native.Nat.{ℕ, _+_, _/_, _%_}
 use lib.Dec.{leb, ltb}
@@ -6,11 +6,11 @@ use lib.ListN.{length}
 use lib.Seq.{sets}
 use Rattle.base.specs.Choice.{choose}
 
--- what the buffer then holds
+-- the buffer afterwards
 unfoldable pub putAt : List ℕ → ℕ → List ℕ → List ℕ
 putAt buf at text = choose (leb (at + length text) (length buf)) (sets buf at text) buf
 
--- and the next place, in a buffer of n bytes
+-- and the next index, in a buffer of n bytes
 unfoldable pub placeAfter : ℕ → ℕ → List ℕ → ℕ
 placeAfter n at text = choose (leb (at + length text) n) (at + length text) at
 

@@ -1,4 +1,4 @@
-// Numbers in decimal: read from a place to the line's end, and put at a place of a buffer.
+// Numbers in decimal: read from an index to the line's end, and put into a buffer.
 ghost use mathlib.Core.Path.{_≡_};
 ghost use Prim.Native.Nat.{_≤_};
 ghost use lib.ListN.{length, drop};
@@ -7,13 +7,13 @@ ghost use Rattle.text.specs.Putting.{putAt, placeAfter};
 use crate::hex::digit_value;
 use crate::putting::put_text;
 
-// A number of 1 or more, or something else.
+// A number, or something else.
 pub enum Decimal {
     Number(u64),
     NotNumber,
 }
 
-// The number that the digits from a place on say, where it is within the limit.
+// The number in the digits from index `from` to the line's end, if it is at most the limit.
 fn read_digits(line: &[u8], from: usize, limit: u32) -> Decimal
     ensures { λ r. ⌜ r ≡ upTo limit (digitsFrom 0 (drop from (now (line .entry)))) ⌝ }
 {
@@ -34,7 +34,7 @@ fn read_digits(line: &[u8], from: usize, limit: u32) -> Decimal
     Decimal::Number(n)
 }
 
-// The number from a place to the line's end, with no leading zero and at most the limit.
+// The number from index `from` to the line's end: 1 or more, with no leading zero, and at most the limit.
 pub fn read_decimal(line: &[u8], from: usize, limit: u32) -> Decimal
     ensures { λ r. ⌜ r ≡ decimalOf limit (drop from (now (line .entry))) ⌝ }
 {
@@ -47,7 +47,7 @@ pub fn read_decimal(line: &[u8], from: usize, limit: u32) -> Decimal
     read_digits(line, from, limit)
 }
 
-// The digits of a number, which end with the array.
+// The digits of a number: those from index `from` to the end of the array.
 struct Digits {
     chars: [u8; 20],
     from: usize,
@@ -67,7 +67,7 @@ fn digits_of(n: u64) -> Digits
     Digits { chars, from }
 }
 
-// A number in decimal; the next place.
+// Puts a number in decimal at index `at`; returns the next index.
 pub fn put_decimal(buf: &mut [u8], at: usize, n: u64) -> usize
     ensures { λ r. ⌜ (r ≡ placeAfter (length (now (buf .entry))) at (decimalText n)) × (now (buf .exit) ≡ putAt (now (buf .entry)) at (decimalText n)) ⌝ }
 {

@@ -1,4 +1,4 @@
-// Bytes written as pairs of hex digits, read in either case.
+// Bytes read from pairs of hex digits, in either case.
 ghost use mathlib.Core.Path.{_≡_};
 ghost use lib.ListN.{length, drop};
 ghost use Rattle.text.specs.Hex.{digitValue, pairOf, pairAt, hexPairs, countOf, filled, stored, hexOf, hexLeft};
@@ -15,7 +15,7 @@ pub fn digit_value(c: u8) -> u8
     }
 }
 
-// Two characters: the byte that they say, or not two digits.
+// Two characters: the byte that they stand for, or not two digits.
 pub enum Pair {
     Byte(u8),
     Other,
@@ -35,7 +35,7 @@ fn pair_of(a: u8, b: u8) -> Pair
     Pair::Byte(high * 16 + low)
 }
 
-// The two characters at a place and behind it.
+// The two characters starting at index `i`.
 fn pair_at(line: &[u8], i: usize) -> Pair
     ensures { λ r. ⌜ r ≡ pairAt (now (line .entry)) i ⌝ }
 {
@@ -48,14 +48,14 @@ fn pair_at(line: &[u8], i: usize) -> Pair
     pair_of(line[i], line[i + 1])
 }
 
-// What came of reading: so many bytes, or something other than pairs of digits, or more bytes than there is room for.
+// The result of reading: the number of bytes, or something other than pairs of digits, or more bytes than there is room for.
 pub enum Hex {
     Bytes(usize),
     NotHex,
     NoRoom,
 }
 
-// How many bytes stand from a place to the line's end.
+// How many bytes there are from index `from` to the line's end.
 fn count_pairs(line: &[u8], from: usize) -> Hex
     ensures { λ r. ⌜ r ≡ countOf 0 (hexPairs (drop from (now (line .entry)))) ⌝ }
 {
@@ -74,7 +74,7 @@ fn count_pairs(line: &[u8], from: usize) -> Hex
     Hex::Bytes(n)
 }
 
-// Those bytes, from the buffer's start on, as many as it has room for; whether the characters were pairs of digits.
+// Puts those bytes at the buffer's start, as many as it has room for; returns whether all characters were pairs of digits.
 fn fill(line: &[u8], from: usize, out: &mut [u8]) -> bool
     ensures { λ r. ⌜ filled r (now (out .exit)) ≡ stored (now (out .entry)) 0 (hexPairs (drop from (now (line .entry)))) ⌝ }
 {
@@ -97,7 +97,7 @@ fn fill(line: &[u8], from: usize, out: &mut [u8]) -> bool
     true
 }
 
-// The bytes from a place to the line's end, put at the buffer's start; refused, the buffer is left as it was.
+// Puts the bytes from index `from` to the line's end at the buffer's start; if refused, the buffer is left as it was.
 pub fn hex_bytes(line: &[u8], from: usize, out: &mut [u8]) -> Hex
     ensures { λ r. ⌜ (r ≡ hexOf (length (now (out .entry))) (hexPairs (drop from (now (line .entry))))) × (now (out .exit) ≡ hexLeft (hexPairs (drop from (now (line .entry)))) (now (out .entry))) ⌝ }
 {

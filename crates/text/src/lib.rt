@@ -1,4 +1,4 @@
-// Lines of text: cut from the blocks in which input comes, read as hex digits or decimal numbers, and put together for output.
+// Lines of text: cut from blocks of input, read as hex digits or decimal numbers, and put together for output.
 pub mod decimal;
 pub mod hex;
 pub mod lines;

@@ -1,4 +1,4 @@
-// Lines of input: a line ends with LF alone, and the blocks in which it comes may have any size.
+// Lines of input: a line ends with LF alone, and may be spread over blocks of any size.
 ghost use mathlib.Core.Path.{_≡_};
 ghost use Prim.Native.Nat.{_+_, _^_, _<_};
 ghost use lib.ListN.{length, drop, replicate, set};
@@ -14,14 +14,14 @@ pub fn no_line() -> [u8; 1200]
     [0; 1200]
 }
 
-// What a block gave: the rest of a line, and the index behind its LF; or more is wanted. The first number counts the
-// line's characters; one more than there is room for stands for any longer line.
+// What a block gave: the rest of a line, and the index after its LF; or the line goes on in the next block. The first
+// number counts the line's characters; one more than there is room for stands for any longer line.
 pub enum LineEnd {
     Line(usize, usize),
     More(usize),
 }
 
-// A count of characters, as it is told.
+// A count of characters; anything above the room is given as one more than the room.
 fn told(room: usize, n: usize) -> usize
     requires { ⌜ room < 2 ^ 63 ⌝ }
     ensures { λ r. ⌜ r ≡ toldCount room n ⌝ }
@@ -32,7 +32,7 @@ fn told(room: usize, n: usize) -> usize
     n
 }
 
-// One character behind a line of which there are `len`; how many there are then.
+// Adds one character to a line of `len` characters; returns the new count.
 fn add_char(line: &mut [u8], len: usize, c: u8) -> usize
     ensures { λ r. ⌜ (r ≡ toldCount (length (now (line .entry))) (len + 1)) × (now (line .exit) ≡ set (now (line .entry)) len c) ⌝ }
 {
@@ -43,7 +43,7 @@ fn add_char(line: &mut [u8], len: usize, c: u8) -> usize
     len + 1
 }
 
-// The characters of a block from a place on, up to the line's end, added to a line of which there are `len`.
+// Adds the characters of a block from index `from` up to the line's end to a line of `len` characters.
 pub fn take_line(block: &[u8], from: usize, line: &mut [u8], len: usize) -> LineEnd
     ensures { λ r. ⌜ (r ≡ lineEndOf (now (block .entry)) from (length (now (line .entry))) len) × (now (line .exit) ≡ sets (now (line .entry)) len (beforeEnd (drop from (now (block .entry))))) ⌝ }
 {

@@ -1,4 +1,4 @@
-// Text put together in a lent buffer: each piece goes to a place of it whole, or not at all where it does not fit.
+// Text put together in a lent buffer: each piece is put whole, or not at all if it does not fit.
 ghost use mathlib.Core.Path.{_≡_};
 ghost use Prim.Native.Nat.{_+_, _≤_, _<_};
 ghost use lib.Dec.{leb};
@@ -6,7 +6,7 @@ ghost use lib.ListN.{length};
 ghost use lib.Seq.{sets};
 ghost use Rattle.text.specs.Putting.{digitOf, hexDigits, hexText, putAt, placeAfter};
 
-// Whether so many characters fit behind a place.
+// Whether `n` characters fit from index `at`.
 fn has_room(len: usize, at: usize, n: usize) -> bool
     ensures { λ r. ⌜ r ≡ leb (at + n) len ⌝ }
 {
@@ -16,7 +16,7 @@ fn has_room(len: usize, at: usize, n: usize) -> bool
     n <= len - at
 }
 
-// A text; the next place.
+// Puts a text at index `at`; returns the next index.
 pub fn put_text(buf: &mut [u8], at: usize, text: &[u8]) -> usize
     ensures { λ r. ⌜ (r ≡ placeAfter (length (now (buf .entry))) at (now (text .entry))) × (now (buf .exit) ≡ putAt (now (buf .entry)) at (now (text .entry))) ⌝ }
 {
@@ -50,7 +50,7 @@ fn store_digits(buf: &mut [u8], at: usize, b: u8)
     buf[at + 1] = digit_of(b % 16);
 }
 
-// A byte in two digits; the next place.
+// Puts a byte in two digits; returns the next index.
 pub fn put_byte(buf: &mut [u8], at: usize, b: u8) -> usize
     ensures { λ r. ⌜ (r ≡ placeAfter (length (now (buf .entry))) at (hexDigits b)) × (now (buf .exit) ≡ putAt (now (buf .entry)) at (hexDigits b)) ⌝ }
 {
@@ -61,7 +61,7 @@ pub fn put_byte(buf: &mut [u8], at: usize, b: u8) -> usize
     at + 2
 }
 
-// Bytes in two digits each; the next place.
+// Puts bytes in two digits each; returns the next index.
 pub fn put_bytes(buf: &mut [u8], at: usize, bytes: &[u8]) -> usize
     ensures { λ r. ⌜ (r ≡ placeAfter (length (now (buf .entry))) at (hexText (now (bytes .entry)))) × (now (buf .exit) ≡ putAt (now (buf .entry)) at (hexText (now (bytes .entry)))) ⌝ }
 {

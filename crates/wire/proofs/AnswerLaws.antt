@@ -1,4 +1,4 @@
--- What is answered goes with its number and values. Assumes nothing.
+-- Equal results have equal answers, number and values. Assumes nothing.
 use mathlib.Core.Path.{_≡_, ap}
 
 module _ {A B : Type 0} (answer : A → B) {r q : A} (e : r ≡ q) where

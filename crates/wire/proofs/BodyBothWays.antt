@@ -1,4 +1,4 @@
--- A body that was laid is read back, and a body that is read is the one that would be laid. Assumes nothing.
+-- A body that was laid down is read back, and a body that is read is the one that would be laid down. Assumes nothing.
 use mathlib.Core.Path.{_≡_, refl, sym, ap, ap₂, _∙_, subst}
 use mathlib.Core.Bool.{Bool, true, false}
 use mathlib.Core.List.{List, [], _∷_, _++_, append-assoc}

@@ -1,4 +1,4 @@
--- The cases of a body's reading, one law a verdict. Assumes nothing.
+-- The cases of reading a body, one law for each verdict. Assumes nothing.
 use mathlib.Core.Path.{_≡_, sym}
 use mathlib.Core.Bool.{true, false}
 use mathlib.Core.List.{List, [], _∷_}

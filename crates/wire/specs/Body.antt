@@ -1,4 +1,4 @@
--- The body between two flags, as it is read: numbers 1 to 5. Assumes nothing.
+-- How the body between two flags is read: numbers 1 to 5. Assumes nothing.
 use mathlib.Core.Bool.{Bool, _||_}
 use mathlib.Core.List.{List, [], _∷_}
 use mathlib.Core.Option.{none, some}
@@ -15,7 +15,7 @@ use Rattle.wire.specs.declared.body.Verdict.{Verdict}
 use Rattle.wire.specs.declared.body.Verdict.the-variants.{Valid, Length, Stuffing, Size, Check, Reserved}
 use Rattle.wire.specs.declared.body.Body.{Body}
 
--- document 01's number of each verdict and, beside 0, the address and the application data
+-- document 01's number for each verdict and, with 0, the address and the application data
 abbrev pub verdictAnswer : Verdict → ℕ → List ℕ → Answer (ℕ × List ℕ)
 verdictAnswer Valid a xs = (0, some (a, xs))
 verdictAnswer Length a xs = (1, none)
@@ -44,14 +44,14 @@ fcsOf a xs = crcOf Fcs (a ∷ xs)
 abbrev pub refusedBody : Verdict → Body
 refusedBody v = record { verdict = v; addr = 0; bytes = replicate 272 0; len = 0 }
 
--- 4, then 5, of an address and len unstuffed bytes, the last two of them the FCS, high byte first
+-- 4, then 5, for an address and len unstuffed bytes; the last two of these are the FCS, high byte first
 unfoldable pub checkedBody : ℕ → List ℕ → ℕ → Body
 checkedBody a xs len =
     choose (eqb (fcsOf a (take (len - 2) xs)) (getD xs (len - 2) 0 * 256 + getD xs (len - 2 + 1) 0))
     (choose (reservedAddr a) (refusedBody Reserved) (record { verdict = Valid; addr = a; bytes = xs; len = len - 2 }))
     (refusedBody Check)
 
--- 2, then 3: 7 to 272 bytes, the address and the FCS among them
+-- 2, then 3: 7 to 272 bytes, including the address and the FCS; the length here leaves out the address
 unfoldable pub unstuffedBody : ℕ → Unstuffed → Body
 unstuffedBody a u =
     choose (u .right)

@@ -1,4 +1,4 @@
--- What stands on the line for an address and application data, and what laying it down answers. Assumes nothing.
+-- The bytes on the line for an address and application data, and the answer to laying them down. Assumes nothing.
 use mathlib.Core.List.{List, [], _∷_, _++_}
 use mathlib.Core.Option.{none, some}
 use Prim.Native.Nat.{ℕ, _/_, _%_}
@@ -11,15 +11,15 @@ use Rattle.wire.specs.Body.{reservedAddr, fcsOf}
 use Rattle.wire.specs.declared.laying.Laid.{Laid}
 use Rattle.wire.specs.declared.laying.Laid.the-variants.{Sent, Reserved, Form, Room}
 
--- the body with a given check: data and check are stuffed, the address is not; high byte first
+-- the body with a given FCS: data and FCS are stuffed, the address is not; the FCS has its high byte first
 unfoldable pub bodyWith : ℕ → ℕ → List ℕ → List ℕ
 bodyWith check a xs = a ∷ stuff (xs ++ (check / 256 ∷ check % 256 ∷ []))
 
--- between its flags
+-- the body between its flags
 unfoldable pub lineWith : ℕ → ℕ → List ℕ → List ℕ
 lineWith check a xs = 0x7E ∷ bodyWith check a xs ++ (0x7E ∷ [])
 
--- the body, and the line, that have the right FCS
+-- the body, and the line, with the right FCS
 abbrev pub bodyOf : ℕ → List ℕ → List ℕ
 bodyOf a xs = bodyWith (fcsOf a xs) a xs
 
@@ -35,20 +35,20 @@ laidOf n a xs =
     (choose (ltb n (length (lineOf a xs))) Room
     (Sent (length (lineOf a xs))))))
 
--- what the buffer then holds: the line and the bytes past its closing flag, or what it held
+-- the buffer afterwards: the line, with the bytes past its closing flag as they were; or all as it was
 abbrev pub leftBy : Laid → List ℕ → List ℕ → List ℕ
 leftBy (Sent n) line buf = line ++ drop n buf
 leftBy Reserved line buf = buf
 leftBy Form line buf = buf
 leftBy Room line buf = buf
 
--- document 01's number of each answer and, beside 0, the length on the line
+-- document 01's number for each answer and, with 0, the length on the line
 abbrev pub laidAnswer : Laid → Answer ℕ
 laidAnswer (Sent n) = (0, some n)
 laidAnswer Reserved = (5, none)
 laidAnswer Form = (8, none)
 laidAnswer Room = (20, none)
 
--- the answer to application data for an address, and a buffer of n bytes
+-- the answer to application data for an address, in a buffer of n bytes
 abbrev pub answerToLaying : ℕ → ℕ → List ℕ → Answer ℕ
 answerToLaying n a xs = laidAnswer (laidOf n a xs)

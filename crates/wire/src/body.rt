@@ -5,7 +5,7 @@ ghost use Rattle.wire.specs.Body.{verdictNumber, bodyAnswer, reservedAdd
 use crc::Poly;
 use stuffing::Unstuffed;
 
-// What a body is answered: it is valid, or numbers 1 to 5.
+// The answer to a body: it is valid, or one of the numbers 1 to 5.
 pub enum Verdict {
     Valid,
     Length,
@@ -29,7 +29,7 @@ pub fn verdict_number(verdict: Verdict) -> u8
     }
 }
 
-// A body that was read: its address, and its application data, the first `len` of `bytes`.
+// What was read of a body: its address, and its application data in the first `len` of `bytes`.
 pub struct Body {
     pub verdict: Verdict,
     pub addr: u8,
@@ -48,7 +48,7 @@ fn refused(verdict: Verdict) -> Body
     }
 }
 
-// The addresses that no station has.
+// The addresses that no station may have.
 pub fn reserved(addr: u8) -> bool
     ensures { λ r. ⌜ r ≡ reservedAddr addr ⌝ }
 {
@@ -67,7 +67,7 @@ pub fn fcs(addr: u8, data: &[u8]) -> u16
     crc::crc_from(Poly::Fcs, crc::crc_of(Poly::Fcs, &[addr]), data)
 }
 
-// 4 and 5: the FCS stands behind the data it covers, high byte first.
+// Numbers 4 and 5. The FCS follows the data it covers, high byte first.
 fn checked(addr: u8, bytes: [u8; 272], len: usize) -> Body
     requires { ⌜ (6 ≤ len) × (len ≤ 271) ⌝ }
     ensures { λ r. ⌜ r ≡ checkedBody addr bytes len ⌝ }
@@ -89,7 +89,7 @@ fn checked(addr: u8, bytes: [u8; 272], len: usize) -> Body
     }
 }
 
-// 2 and 3: the length counts address and FCS.
+// Numbers 2 and 3. The 7 to 272 bytes of document 01 include the address and the FCS; `len` leaves out the address.
 fn unstuffed_body(addr: u8, u: Unstuffed) -> Body
     ensures { λ r. ⌜ r ≡ unstuffedBody addr u ⌝ }
 {

@@ -1,4 +1,4 @@
-// A frame laid into a lent buffer: flag, address, stuffed data, stuffed FCS, flag.
+// A frame laid down in a lent buffer: flag, address, stuffed data, stuffed FCS, flag.
 ghost use mathlib.Core.Path.{_≡_};
 ghost use mathlib.Core.List.{_++_};
 ghost use Prim.Native.Nat.{_≤_};
@@ -8,7 +8,7 @@ ghost use Rattle.wire.specs.Laying.{bodyWith, lineWith, lineOf, laidOf, 
 use crate::body;
 use stuffing::FLAG;
 
-// The body with a given FCS, from the buffer's first byte on; its length.
+// Lays down the body with a given FCS at the start of the buffer; returns its length.
 fn lay_body(dst: &mut [u8], addr: u8, data: &[u8], check: u16) -> usize
     requires { ⌜ length (bodyWith check addr (now «data»)) ≤ length (now dst) ⌝ }
     ensures { λ r. ⌜ (r ≡ length (bodyWith check addr (now («data» .entry)))) × (now (dst .exit) ≡ sets (now (dst .entry)) 0 (bodyWith check addr (now («data» .entry)))) ⌝ }
@@ -19,7 +19,7 @@ fn lay_body(dst: &mut [u8], addr: u8, data: &[u8], check: u16) -> usize
     stuffing::stuff_at(&sent, dst, n)
 }
 
-// The same between its flags. The bytes behind the closing flag stay.
+// The same with both flags. The bytes after the closing flag are left as they were.
 fn lay_line(buf: &mut [u8], addr: u8, data: &[u8], check: u16) -> usize
     requires { ⌜ length (lineWith check addr (now «data»)) ≤ length (now buf) ⌝ }
     ensures { λ r. ⌜ (r ≡ length (lineWith check addr (now («data» .entry)))) × (now (buf .exit) ≡ lineWith check addr (now («data» .entry)) ++ drop (length (lineWith check addr (now («data» .entry)))) (now (buf .entry))) ⌝ }
@@ -30,7 +30,7 @@ fn lay_line(buf: &mut [u8], addr: u8, data: &[u8], check: u16) -> usize
     n + 2
 }
 
-// How long that is.
+// The length of that line.
 fn line_len(addr: u8, data: &[u8], check: u16) -> usize
     requires { ⌜ length (now «data») ≤ 269 ⌝ }
     ensures { λ r. ⌜ r ≡ length (lineWith check addr (now («data» .entry))) ⌝ }
@@ -39,7 +39,7 @@ fn line_len(addr: u8, data: &[u8], check: u16) -> usize
     3 + stuffing::stuffed_len(data) + stuffing::stuffed_len(&sent)
 }
 
-// What came of laying down: the length on the line, or numbers 5, 8 and 20.
+// The result of laying down: the length on the line, or number 5, 8 or 20.
 pub enum Laid {
     Sent(usize),
     Reserved,
@@ -59,7 +59,7 @@ pub fn laid_number(laid: Laid) -> u8
     }
 }
 
-// Application data laid down for an address, or refused with the buffer untouched.
+// Lays down application data for an address, or refuses them and leaves the buffer untouched.
 pub fn lay(buf: &mut [u8], addr: u8, data: &[u8]) -> Laid
     ensures { λ r. ⌜ (r ≡ laidOf (length (now (buf .entry))) addr (now («data» .entry))) × (now (buf .exit) ≡ leftBy r (lineOf addr (now («data» .entry))) (now (buf .entry))) × (laidAnswer r ≡ answerToLaying (length (now (buf .entry))) addr (now («data» .entry))) ⌝ }
 {
