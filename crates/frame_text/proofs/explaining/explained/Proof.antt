@@ -1,8 +1,9 @@
 -- `explaining::explained` meets its contract, with flags and without. Assumes nothing.
-use mathlib.Core.Path.{_≡_, sym, _∙_}
-use Prim.Native.Nat.{_-_, _≤_}
+use mathlib.Core.Path.{_≡_, sym, ap, _∙_}
+use Prim.Native.Nat.{ℕ, _-_, _≤_}
 use native.Mathlib.Omega.{arith}
-use lib.ListN.{length}
+use lib.ListN.{length, take, drop}
+use Rattle.frame_text.specs.Explained.{readText}
 use Rattle.frame_text.proofs.ExplainingLaws.{flagged-long, flags-off, no-flags}
 use borrow.Author.Needs.{needs}
 use Rattle.frame_text.proofs.explaining.explained.Statement.{statement}
@@ -34,8 +35,8 @@ returns : tie.Need-returns
 returns c =
     let a = c .before .before .before .before .before .args in
     let e : length (a .bytes .now) - 1 - 1 ≡ length (a .bytes .now) - 2 = omega arith in
-    c .read-text .ensures
-    ∙ rw e (flags-off (a .bytes .now) (a .t) (sym (c .before .before .before .is-flagged .ensures) ∙ c .before .before .if1 .taken))
+    c .read-text .ensures ∙ ap (λ (n : ℕ). readText (a .t) (take n (drop 1 (a .bytes .now)))) e
+    ∙ flags-off (a .bytes .now) (a .t) (sym (c .before .before .before .is-flagged .ensures) ∙ c .before .before .if1 .taken)
 
 read-text-requires-2 : tie.Need-read-text-requires-2
 read-text-requires-2 c κs = search needs

@@ -2,8 +2,8 @@
 use mathlib.Core.Path.{_≡_, sym, _∙_}
 use Prim.Native.Nat.{_-_, _≤_}
 use native.Mathlib.Omega.{arith}
-use lib.ListN.{length, take, drop, length-drop}
-use lib.Seq.{length-take-le, take-all}
+use lib.ListN.{length, take, drop, length-take, length-drop}
+use lib.Seq.{take-all}
 use Rattle.frame_words.proofs.ListedLaws.{port-long}
 use borrow.Author.Needs.{needs}
 use Rattle.framing.proofs.answering.behind_port.Statement.{statement}
@@ -16,7 +16,7 @@ no-text-requires : tie.Need-no-text-requires
 no-text-requires c κs = search needs
 
 slice-aggregate-add : tie.Need-slice-aggregate-add
-slice-aggregate-add c = sym (length-take-le 2 (c .before .before .before .before .args .line .now) (long c))
+slice-aggregate-add c = simp length-take (omega (arith, long c))
 
 add-requires : tie.Need-add-requires
 add-requires c κs = search needs
