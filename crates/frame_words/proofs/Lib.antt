@@ -1,3 +1,4 @@
 pub mod FormLaws
 pub mod WordLaws
 pub mod TextLaws
+pub mod ListedLaws

@@ -8,7 +8,7 @@ use lib.ListN.{length, take, drop, replicate, length-append, length-replicate}
 use lib.Seq.{sets, take-at, length-sets}
 use Rattle.base.proofs.Sets.{sets-append, sets-front}
 use Rattle.text.proofs.PuttingLaws.{put-fits}
-use Rattle.frame_words.specs.Texts.{noText, put, puts, textIn}
+use Rattle.frame_words.specs.Texts.{room, noText, put, puts, textIn}
 use Rattle.frame_words.specs.declared.texts.Text.{Text}
 
 -- a piece that fits
@@ -26,11 +26,11 @@ put-put t s u h =
     rw (put-is t s (omega arith), put-is t (s ++ u) (omega arith), put-is (record { bytes = sets (t .bytes) (t .len) s; len = t .len + length s }) u (omega arith), sets-append (t .bytes) (t .len) s u, m)
 
 -- a text from nothing
-pub text-is : (s : List ℕ) → length s ≤ 1200 → textIn (put noText s) ≡ s
+pub text-is : (s : List ℕ) → length s ≤ room → textIn (put noText s) ≡ s
 unfolding noText
 text-is s h =
-    let b : List ℕ = replicate 1200 0 in
-    let l : length b ≡ 1200 = length-replicate {A = ℕ} 1200 0 in
+    let b : List ℕ = replicate room 0 in
+    let l : length b ≡ room = length-replicate {A = ℕ} room 0 in
     let z : 0 + length s ≡ length s = omega arith in
     rw (put-is noText s (omega arith), z) (ap (take (length s)) (sets-front b s (omega arith)) ∙ take-at s (drop (length s) b) (length s) refl)
 
@@ -52,9 +52,9 @@ puts-is t (s ∷ ss) h =
     puts-is (put t s) ss (omega arith) ∙ put-put t s (joined ss) (omega arith)
 
 -- so what is printed of pieces that fit is their characters, one behind the other
-pub pieces-are : (ss : List (List ℕ)) → length (joined ss) ≤ 1200 → textIn (puts noText ss) ≡ joined ss
+pub pieces-are : (ss : List (List ℕ)) → length (joined ss) ≤ room → textIn (puts noText ss) ≡ joined ss
 unfolding noText
 pieces-are ss h =
-    let b : List ℕ = replicate 1200 0 in
-    let l : length b ≡ 1200 = length-replicate {A = ℕ} 1200 0 in
+    let b : List ℕ = replicate room 0 in
+    let l : length b ≡ room = length-replicate {A = ℕ} room 0 in
     ap textIn (puts-is noText ss (omega arith)) ∙ text-is (joined ss) h

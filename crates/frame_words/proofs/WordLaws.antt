@@ -8,7 +8,7 @@ use native.Mathlib.Numerals.{add-one}
 use borrow.Author.Tests.{eq-eqb, ne-eqb}
 use lib.Dec.{eqb}
 use lib.ListN.{length, take, drop, getD, length-drop, drop-of-length-le}
-use lib.Seq.{drop-cons}
+use lib.Seq.{drop-cons, length-take-le}
 use Rattle.base.specs.Choice.{choose}
 use Rattle.frame_words.specs.Words.{wordIn, wordAt, wordEnd, starts}
 
@@ -78,3 +78,7 @@ word-shorter s i = omega (arith, shorter (drop i s), length-drop i s)
 
 pub word-first : (s : List ℕ) (e : ℕ) → e ≡ wordEnd s 0 → take e s ≡ wordAt s 0
 word-first s e p = let q : wordEnd s 0 ≡ length (wordAt s 0) = omega arith in rw (p, q) (first-part s)
+
+-- the first word as a part of its line
+pub first-length : (s : List ℕ) (e : ℕ) → e ≡ wordEnd s 0 → e ≡ length (take e s)
+first-length s e p = sym (length-take-le e s (omega (arith, word-within s 0 (omega arith))))

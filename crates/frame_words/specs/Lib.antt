@@ -3,3 +3,4 @@ pub mod Words
 pub mod Table
 pub mod Texts
 pub mod Called
+pub mod Listed

@@ -3,15 +3,16 @@ ghost use mathlib.Core.Path.{_≡_};
 ghost use Rattle.text.specs.Decimal.{decimalText};
 ghost use Rattle.text.specs.Putting.{hexText};
 ghost use Rattle.frame_words.specs.Words.{wordAt};
-ghost use Rattle.frame_words.specs.Texts.{noText};
+ghost use Rattle.frame_words.specs.Texts.{noText, endLine};
 ghost use Rattle.frame_words.specs.Texts.{put as Texts·put};
 use crate::words;
 use text::decimal;
+use text::lines::LF;
 use text::putting;
 
-// The longest is a body of 543 bytes in hex digits.
+// Room for a line of 1,200 characters with its LF, and for the page of the grammar.
 pub struct Text {
-    pub bytes: [u8; 1200],
+    pub bytes: [u8; 2048],
     pub len: usize,
 }
 
@@ -19,7 +20,7 @@ pub fn no_text() -> Text
     ensures { λ r. ⌜ r ≡ noText ⌝ }
 {
     Text {
-        bytes: [0; 1200],
+        bytes: [0; 2048],
         len: 0,
     }
 }
@@ -55,6 +56,13 @@ pub fn add_count(t: Text, n: u8) -> Text
     ensures { λ r. ⌜ r ≡ Texts·put t (decimalText n) ⌝ }
 {
     add_number(t, n as u64)
+}
+
+// The LF behind a line.
+pub fn end_line(t: Text) -> Text
+    ensures { λ r. ⌜ r ≡ endLine t ⌝ }
+{
+    add(t, &[LF])
 }
 
 // The word that begins at a place of a row of columns.

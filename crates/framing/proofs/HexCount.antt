@@ -14,7 +14,7 @@ use Rattle.base.proofs.Choosing.{absurdly, by-test}
 use Rattle.text.specs.Hex.{pairOf, paired, hexPairs, hexOf, hexLeft}
 use Rattle.text.specs.declared.hex.Pair.{Pair}
 use Rattle.text.specs.declared.hex.Pair.the-variants.{Byte, Other}
-use Rattle.text.specs.declared.hex.Hex.the-variants.{Bytes, NotHex, NoRoom}
+use Rattle.text.specs.declared.hex.Hex.the-variants.{Bytes, NoRoom}
 use Rattle.frame_words.specs.Chars.{chars}
 use Rattle.frame_words.specs.Words.{wordAt, starts}
 use Rattle.frame_fields.specs.Rows.{dataWord, dataAt}
@@ -72,14 +72,6 @@ bytes-are (some bs) buf out n l e p = by (ltb 600 (length bs)) e (p ∙ rw l)
     by false e p =
         let q : n ≡ length bs = cc in
         rw (p, q) (ap some (sym (take-at bs (drop (length bs) buf) (length bs) refl)))
-
-pub not-hex : (m : ℕ) (o : Option (List ℕ)) → NotHex ≡ hexOf m o → o ≡ none
-not-hex m none e = refl
-not-hex m (some bs) e = by (ltb m (length bs)) e
-  where
-    by : (t : Bool) → NotHex ≡ choose t NoRoom (Bytes (length bs)) → some bs ≡ none
-    by true e = absurdly (cc)
-    by false e = absurdly (cc)
 
 -- data were read only behind a space
 pub data-inside : (s : List ℕ) (at : ℕ) (xs : List ℕ) → dataAt s at ≡ some xs → at < length s

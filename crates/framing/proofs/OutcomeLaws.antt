@@ -1,4 +1,4 @@
--- Laws of what a line says, one for each way. Assumes nothing.
+-- Laws of what a line asks for, one for each way. Assumes nothing.
 use mathlib.Core.Path.{_≡_, refl, sym, ap, _∙_}
 use mathlib.Core.Bool.{true, false}
 use mathlib.Core.List.{List, [], _∷_}
@@ -12,7 +12,7 @@ use Rattle.frame_words.specs.Chars.{chars}
 use Rattle.frame_words.specs.Words.{wordAt, wordEnd}
 use Rattle.frame_words.specs.Table.{fieldsFrom, fieldsIn, fieldsOf, hasData}
 use Rattle.frame_fields.specs.Rows.{readFields, dataAt}
-use Rattle.framing.specs.Said.{wants}
+use Rattle.frame_text.specs.Said.{wants}
 use Rattle.frame_words.specs.Called.{called}
 use Rattle.framing.specs.Outcome.{build, complain, atEnd, byData, withData, wantsField, byRow, byKind, byBytes, byBody, byWord, outcomeOf}
 use Rattle.frame_words.specs.declared.table.Kind.{Kind}
@@ -81,11 +81,7 @@ module _ (s : List ℕ) (at : ℕ) where
   unfolding byBody
   body-by h o e = rw (lt-ltb _ _ h, e)
 
--- ---- a line
-pub line-over : (s : List ℕ) → 1200 < length s → outcomeOf s ≡ complain (chars "over 1,200 characters" ∷ [])
+-- ---- the first word
+pub asked-by : (s : List ℕ) (c : Called) → called (wordAt s 0) ≡ c → outcomeOf s ≡ byWord c s (wordEnd s 0)
 unfolding outcomeOf
-line-over s h = rw (lt-ltb _ _ h)
-
-pub line-by : (s : List ℕ) → length s ≤ 1200 → (c : Called) → called (wordAt s 0) ≡ c → outcomeOf s ≡ byWord c s (wordEnd s 0)
-unfolding outcomeOf
-line-by s h c e = rw (le-ltb _ _ h, e)
+asked-by s c e = rw e

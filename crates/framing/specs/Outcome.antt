@@ -1,4 +1,4 @@
--- What a line says: a frame to build, a body to explain, or the first thing that is wrong. Assumes nothing.
+-- What a line asks for, behind its port if it has one: a frame to build, a body to explain, or the first thing that is wrong. Assumes nothing.
 use mathlib.Core.List.{List, [], _∷_}
 use mathlib.Core.Option.{Option, none, some}
 use Prim.Native.Nat.{ℕ, zero, suc, _+_}
@@ -10,7 +10,7 @@ use Rattle.frame_words.specs.Chars.{chars}
 use Rattle.frame_words.specs.Words.{wordAt, wordEnd}
 use Rattle.frame_words.specs.Table.{Field, fieldsOf, hasData}
 use Rattle.frame_fields.specs.Rows.{readFields, dataAt}
-use Rattle.framing.specs.Said.{wants}
+use Rattle.frame_text.specs.Said.{wants}
 use Rattle.frame_words.specs.Called.{called}
 use Rattle.frame_words.specs.declared.table.Kind.{Kind}
 use Rattle.frame_fields.specs.declared.rows.Row.{Row}
@@ -65,8 +65,5 @@ byWord (Named k) s at = byKind s at k
 byWord Body s at = byBody s at
 byWord Other s at = complain (chars "no such kind" ∷ [])
 
--- a line
 unfoldable pub outcomeOf : List ℕ → Outcome
-outcomeOf s =
-    choose (ltb 1200 (length s)) (complain (chars "over 1,200 characters" ∷ []))
-    (byWord (called (wordAt s 0)) s (wordEnd s 0))
+outcomeOf s = byWord (called (wordAt s 0)) s (wordEnd s 0)

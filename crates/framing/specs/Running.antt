@@ -1,5 +1,5 @@
 -- The program that answers a line each, numbered from 1. Assumes nothing.
-use mathlib.Core.List.{List, [], _∷_}
+use mathlib.Core.List.{List, []}
 use Prim.Native.Nat.{ℕ, _+_, _%_, _^_}
 use lib.Dec.{eqb, ltb}
 use lib.ListN.{length, take}
@@ -8,7 +8,8 @@ use Rattle.text.specs.Decimal.{decimalText}
 use Rattle.console.specs.Programs.{Program}
 use Rattle.frame_words.specs.Texts.{noText, put, textIn}
 use Rattle.frame_words.specs.declared.texts.Text.{Text}
-use Rattle.framing.specs.Answers.{answerOf, overText, grammarText}
+use Rattle.framing.specs.Answers.{answerOf, overText}
+use Rattle.frame_text.specs.Grammar.{grammarText}
 
 -- the number of the line behind so many, in 64 bits, and as text
 abbrev pub numberOf : ℕ → ℕ
@@ -17,17 +18,13 @@ numberOf n = (n + 1) % 2 ^ 64
 unfoldable pub numberText : ℕ → List ℕ
 numberText n = textIn (put noText (decimalText (numberOf n)))
 
--- the answer to a line behind so many, with its LF
-unfoldable pub answered : ℕ → List ℕ → Text
-answered n chars = put (answerOf (numberText n) chars) (0x0A ∷ [])
-
 -- at the end, behind so many lines: the grammar where there were none
 unfoldable pub endText : ℕ → Text
 endText n = choose (eqb n 0) grammarText noText
 
 abbrev pub answering : Program ℕ
-answering = record { start = 0; first = []; next = λ n l. numberOf n; says = λ n l. textIn (answered n l); ends = λ n. textIn (endText n) }
+answering = record { start = 0; first = []; next = λ n l. numberOf n; says = λ n l. textIn (answerOf (numberText n) l); ends = λ n. textIn (endText n) }
 
 -- a line of len characters, of which a buffer keeps the first
 unfoldable pub answeredIn : ℕ → List ℕ → ℕ → Text
-answeredIn n line len = put (choose (ltb (length line) len) (overText (numberText n)) (answerOf (numberText n) (take len line))) (0x0A ∷ [])
+answeredIn n line len = choose (ltb (length line) len) (overText (numberText n)) (answerOf (numberText n) (take len line))

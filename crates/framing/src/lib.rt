@@ -1,9 +1,6 @@
-// Bodies built from their fields, and explained, a line each: the program saturn-frame.
+// Lists answered line by line: frames built, bodies explained, a script's own lines passed on. The program saturn-frame.
 mod answering;
-mod building;
-mod explaining;
-mod grammar;
+mod asking;
 mod running;
-mod said;
 
 pub use running::run;

@@ -6,19 +6,18 @@ ghost use lib.Dec.{ltb};
 ghost use lib.ListN.{length, take};
 ghost use Rattle.base.specs.Choice.{choose};
 ghost use Rattle.text.specs.Putting.{putAt, placeAfter};
-ghost use Rattle.frame_words.specs.Texts.{textIn};
+ghost use Rattle.frame_words.specs.Texts.{room, textIn};
 ghost use Rattle.console.specs.Answering.{Whole};
 ghost use Rattle.framing.specs.Answers.{answerOf, overText};
 ghost use Rattle.framing.specs.Running.{numberOf, answeredIn, endText};
 ghost use Rattle.framing.specs.Running.{answering as Running·answering};
 use crate::answering;
-use crate::grammar;
 use console::blocks;
 use console::lines;
 use console::lines::Cursor;
+use frame_text::grammar;
 use frame_words::texts;
 use frame_words::texts::Text;
-use text::lines::LF;
 
 // A line of `len` characters, or one that is longer than there is room for.
 fn answer_to(number: &[u8], line: &[u8], len: usize) -> Text
@@ -36,14 +35,14 @@ fn next_number(before: u64) -> u64
     std::num::wrapping_add_u64(before, 1)
 }
 
-// The answer to the line behind `before` lines, with its LF.
+// The answer to the line behind `before` lines.
 fn answer_in(before: u64, line: &[u8], len: usize) -> Text
     ensures { λ r. ⌜ r ≡ answeredIn before (now (line .entry)) len ⌝ }
 {
     let number = texts::add_number(texts::no_text(), next_number(before));
     let digits = number.bytes;
     let k = blocks::least(digits.len(), number.len);
-    texts::add(answer_to(&digits[..k], line, len), &[LF])
+    answer_to(&digits[..k], line, len)
 }
 
 // The text at the end of the input: the grammar, where no line was answered.
@@ -58,7 +57,7 @@ fn end_text(lines: u64) -> Text
 
 // A text put at a place of the output.
 fn put(t: Text, out: &mut [u8], at: usize) -> usize
-    ensures { λ r. ⌜ (length (textIn t) ≤ 1200) × (r ≡ placeAfter (length (now (out .entry))) at (textIn t)) × (now (out .exit) ≡ putAt (now (out .entry)) at (textIn t)) ⌝ }
+    ensures { λ r. ⌜ (length (textIn t) ≤ room) × (r ≡ placeAfter (length (now (out .entry))) at (textIn t)) × (now (out .exit) ≡ putAt (now (out .entry)) at (textIn t)) ⌝ }
 {
     let bytes = t.bytes;
     blocks::put_first(out, at, &bytes, t.len)

@@ -1,64 +1,88 @@
--- `answering::answer` meets its contract, by the line's first word. Assumes nothing.
-use mathlib.Core.Path.{sym, ap, _∙_}
-use native.Mathlib.Omega.{arith}
-use lib.Seq.{length-take-le}
-use Rattle.frame_words.specs.Called.{called}
-use Rattle.frame_words.proofs.WordLaws.{word-first, word-within}
-use Rattle.framing.proofs.OutcomeLaws.{line-over, line-by}
+-- `answering::answer` meets its contract, rule by rule. Assumes nothing.
+use mathlib.Core.Path.{_≡_, sym, _∙_, ap}
+use mathlib.Core.Bool.{false}
+use Rattle.frame_words.specs.Listed.{isSilent, isTicksOrInputs, isPortBody}
+use Rattle.frame_words.specs.Texts.{endLine}
+use Rattle.framing.proofs.AnswerLaws.{answer-over, answer-silent, answer-ticks, answer-body, answer-port, answer-plain}
 use borrow.Author.Needs.{needs}
 use Rattle.framing.proofs.answering.answer.Statement.{statement}
 use Rattle.framing.proofs.answering.answer.Tie as tie
+
+-- what is known past each test
+loud : (c : tie.Else2) → isSilent (c .before .before .before .before .before .args .line .now) ≡ false
+loud c = sym (c .before .is-silent .ensures) ∙ c .if2 .left
+
+no-ticks : (c : tie.Else3) → isTicksOrInputs (c .before .before .before .before .before .before .before .args .line .now) ≡ false
+no-ticks c = sym (c .before .is-ticks-or-inputs .ensures) ∙ c .if3 .left
+
+no-body : (c : tie.Else4) → isPortBody (c .before .before .before .before .before .before .before .before .before .args .line .now) ≡ false
+no-body c = sym (c .before .is-port-body .ensures) ∙ c .if4 .left
 
 over-requires : tie.Need-over-requires
 over-requires c κs = search needs
 
 returns : tie.Need-returns
-returns c = rw (line-over _ (c .before .if1 .taken)) (c .over .ensures)
+returns c = c .over .ensures ∙ sym (answer-over _ _ (c .before .if1 .taken))
 
-word-end-requires : tie.Need-word-end-requires
-word-end-requires c κs = search needs
+is-silent-requires : tie.Need-is-silent-requires
+is-silent-requires c κs = search needs
 
-slice-aggregate-called-by : tie.Need-slice-aggregate-called-by
-slice-aggregate-called-by c = let a = c .before .before .before .before .before .args in sym (length-take-le _ (a .line .now) (omega (arith, c .before .word-end .ensures, word-within (a .line .now) 0 (search needs))))
-
-called-by-requires : tie.Need-called-by-requires
-called-by-requires c κs = search needs
-
-enum-known-kind : tie.Need-enum-known-kind
-enum-known-kind c = search needs
-
-by-kind-requires : tie.Need-by-kind-requires
-by-kind-requires c κs = search needs
-
-enum-told : tie.Need-enum-told
-enum-told c = search needs
-
-by-body-requires : tie.Need-by-body-requires
-by-body-requires c κs = search needs
-
-enum-told-2 : tie.Need-enum-told-2
-enum-told-2 c = search needs
-
-slice-aggregate-bad : tie.Need-slice-aggregate-bad
-slice-aggregate-bad c = search needs
-
-bad-requires : tie.Need-bad-requires
-bad-requires c κs = search needs
+no-text-requires : tie.Need-no-text-requires
+no-text-requires c κs = search needs
 
 returns-2 : tie.Need-returns-2
-returns-2 c =
-    let a = c .before .before .before .before .before .before .before .before .before .before .args in
-    rw (line-by (a .line .now) (c .before .before .before .before .before .before .before .if1 .left) _ (ap called (sym (word-first (a .line .now) _ (c .before .before .before .before .before .before .word-end .ensures))) ∙ sym (c .before .before .before .before .called-by .ensures) ∙ c .before .before .kind .given .1), ← c .before .before .before .before .before .before .word-end .ensures) (c .by-kind .ensures)
+returns-2 c = c .no-text .ensures ∙ sym (answer-silent _ _ (c .before .before .before .if1 .left) (sym (c .before .before .is-silent .ensures) ∙ c .before .if2 .taken))
+
+is-ticks-or-inputs-requires : tie.Need-is-ticks-or-inputs-requires
+is-ticks-or-inputs-requires c κs = search needs
+
+passed-requires : tie.Need-passed-requires
+passed-requires c κs = search needs
 
 returns-3 : tie.Need-returns-3
 returns-3 c =
-    let a = c .before .before .before .before .before .before .before .before .before .args in
-    rw (line-by (a .line .now) (c .before .before .before .before .before .before .if1 .left) _ (ap called (sym (word-first (a .line .now) _ (c .before .before .before .before .before .word-end .ensures))) ∙ sym (c .before .before .before .called-by .ensures) ∙ c .before .enum-told .given .1), ← c .before .before .before .before .before .word-end .ensures) (c .by-body .ensures)
+    c .passed .ensures
+    ∙ sym (answer-ticks _ _ (c .before .before .before .before .before .if1 .left) (loud (c .before .before .before))
+    (sym (c .before .before .is-ticks-or-inputs .ensures) ∙ c .before .if3 .taken))
+
+is-port-body-requires : tie.Need-is-port-body-requires
+is-port-body-requires c κs = search needs
+
+passed-requires-2 : tie.Need-passed-requires-2
+passed-requires-2 c κs = search needs
 
 returns-4 : tie.Need-returns-4
 returns-4 c =
-    let a = c .before .before .before .before .before .before .before .before .before .before .args in
-    rw (line-by (a .line .now) (c .before .before .before .before .before .before .before .if1 .left) _ (ap called (sym (word-first (a .line .now) _ (c .before .before .before .before .before .before .word-end .ensures))) ∙ sym (c .before .before .before .before .called-by .ensures) ∙ c .before .before .enum-told2 .given .1)) (c .bad .ensures)
+    c .passed2 .ensures
+    ∙ sym (answer-body _ _ (c .before .before .before .before .before .before .before .if1 .left) (loud (c .before .before .before .before .before)) (no-ticks (c .before .before .before))
+    (sym (c .before .before .is-port-body .ensures) ∙ c .before .if4 .taken))
+
+has-port-requires : tie.Need-has-port-requires
+has-port-requires c κs = search needs
+
+behind-port-requires : tie.Need-behind-port-requires
+behind-port-requires c κs = (c .before .before .before .before .before .before .before .before .if1 .left, sym (c .before .has-port .ensures) ∙ c .if5 .taken)
+
+returns-5 : tie.Need-returns-5
+returns-5 c =
+    c .behind-port .ensures
+    ∙ sym (answer-port _ _ (c .before .before .before .before .before .before .before .before .before .if1 .left) (loud (c .before .before .before .before .before .before .before))
+    (no-ticks (c .before .before .before .before .before)) (no-body (c .before .before .before)) (sym (c .before .before .has-port .ensures) ∙ c .before .if5 .taken))
+
+no-text-requires-2 : tie.Need-no-text-requires-2
+no-text-requires-2 c κs = search needs
+
+asked-requires : tie.Need-asked-requires
+asked-requires c κs = c .before .before .before .before .before .before .before .before .before .if1 .left
+
+end-line-requires : tie.Need-end-line-requires
+end-line-requires c κs = search needs
+
+returns-6 : tie.Need-returns-6
+returns-6 c =
+    c .end-line .ensures ∙ ap endLine (rw (c .before .before .no-text2 .ensures) at (c .before .asked .ensures))
+    ∙ sym (answer-plain _ _ (c .before .before .before .before .before .before .before .before .before .before .before .if1 .left) (loud (c .before .before .before .before .before .before .before .before .before))
+    (no-ticks (c .before .before .before .before .before .before .before)) (no-body (c .before .before .before .before .before)) (sym (c .before .before .before .before .has-port .ensures) ∙ c .before .before .before .if5 .left))
 
 pub answer-spec : {M : Type 1} → statement M
 answer-spec =
@@ -66,16 +90,19 @@ answer-spec =
     (tie.spec
     over-requires
     returns
-    word-end-requires
-    slice-aggregate-called-by
-    called-by-requires
-    enum-known-kind
-    by-kind-requires
-    enum-told
-    by-body-requires
-    enum-told-2
-    slice-aggregate-bad
-    bad-requires
+    is-silent-requires
+    no-text-requires
     returns-2
+    is-ticks-or-inputs-requires
+    passed-requires
     returns-3
-    returns-4)
+    is-port-body-requires
+    passed-requires-2
+    returns-4
+    has-port-requires
+    behind-port-requires
+    returns-5
+    no-text-requires-2
+    asked-requires
+    end-line-requires
+    returns-6)

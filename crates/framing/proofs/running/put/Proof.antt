@@ -18,7 +18,7 @@ same-length c = search needs
 returns : tie.Need-returns
 returns c =
     let t = c .before .before .before .before .before .before .before .args .t in
-    let l : length (t .bytes) ≡ 1200 = search needs in
+    let l : length (t .bytes) ≡ 2048 = search needs in
     let p = c .before .before .put-first .ensures in
     (text-fits t l, p .0, p .1)
 

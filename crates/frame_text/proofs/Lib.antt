@@ -1,0 +1,4 @@
+pub mod BuildingLaws
+pub mod ExplainingLaws
+pub mod GrammarLaws
+pub mod BuiltText

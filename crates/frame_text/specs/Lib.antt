@@ -1,0 +1,4 @@
+pub mod Said
+pub mod Built
+pub mod Explained
+pub mod Grammar
