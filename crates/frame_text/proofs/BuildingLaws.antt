@@ -47,6 +47,7 @@ module _ (a : ℕ) (f : Frame) (xs : List ℕ) where
         rw (e, q, ← sent-says 600 a f xs n e .2)
         (ap (λ (b : List ℕ). put t (hexText b)) (between (drop (length (frameLine a f xs)) buf)))
 
-  pub built-by : (t : Text) (l : Laid) (r : Text) → writtenOf 600 a f xs ≡ l → r ≡ byLaid t l (bodyOf a (appOf f xs)) → r ≡ frameBuilt t a f xs
+  pub built-by : (t : Text) (l : Laid) (r : Text) → writtenOf 600 a f xs ≡ l → r ≡ byLaid t l (bodyOf a (appOf f xs))
+      → r ≡ frameBuilt t a f xs
   unfolding frameBuilt
   built-by t l r e p = rw e p

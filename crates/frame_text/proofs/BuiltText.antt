@@ -24,7 +24,8 @@ use Rattle.frame_text.proofs.BuildingLaws.{built-by}
 
 -- what stands before it is a port digit and a space, or nothing
 pub built-whole : (port : List ℕ) (a : ℕ) (f : Frame) (xs : List ℕ) → length port ≤ 2 → Sized f → reservedAddr a ≡ false
-    → fits a f (length xs) ≡ true → textIn (endLine (frameBuilt (put noText port) a f xs)) ≡ port ++ (hexText (bodyOf a (appOf f xs)) ++ (0x0A ∷ []))
+    → fits a f (length xs) ≡ true
+    → textIn (endLine (frameBuilt (put noText port) a f xs)) ≡ port ++ (hexText (bodyOf a (appOf f xs)) ++ (0x0A ∷ []))
 built-whole port a f xs p z r h =
     let ys : List ℕ = appOf f xs in
     let m : length ys ≤ 269 = app-bounds a f xs z h .1 in

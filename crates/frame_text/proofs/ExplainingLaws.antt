@@ -57,7 +57,8 @@ module _ (t : Text) (a : ℕ) (f : Frame) (bytes : List ℕ) where
   unfolding frameText
   frame-plain e = rw e
 
-pub read-by : (t : Text) (body : List ℕ) (r : Received) (u : Text) → r ≡ readFrame body → u ≡ byReading t (r .reading) (r .bytes) → u ≡ readText t body
+pub read-by : (t : Text) (body : List ℕ) (r : Received) (u : Text) → r ≡ readFrame body
+    → u ≡ byReading t (r .reading) (r .bytes) → u ≡ readText t body
 unfolding readText
 read-by t body r u e p = rw (← e) p
 

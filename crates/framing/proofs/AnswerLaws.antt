@@ -51,7 +51,8 @@ pub passed-whole : (number s : List ℕ) → length s ≤ 1200 → isSilent s �
     → textIn (answerOf number s) ≡ s ++ (0x0A ∷ [])
 passed-whole number s h a p = by (isTicksOrInputs s) refl (isPortBody s) refl p
   where
-    by : (x : Bool) → isTicksOrInputs s ≡ x → (y : Bool) → isPortBody s ≡ y → (x || y) ≡ true → textIn (answerOf number s) ≡ s ++ (0x0A ∷ [])
+    by : (x : Bool) → isTicksOrInputs s ≡ x → (y : Bool) → isPortBody s ≡ y → (x || y) ≡ true
+        → textIn (answerOf number s) ≡ s ++ (0x0A ∷ [])
     by true e y f q = ap textIn (answer-ticks number s h a e) ∙ passed-text s h
     by false e true f q = ap textIn (answer-body number s h a e f) ∙ passed-text s h
     by false e false f q = never q

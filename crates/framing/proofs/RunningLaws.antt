@@ -25,7 +25,8 @@ use Rattle.framing.proofs.AnswerLaws.{answer-over}
 use Rattle.framing.specs.Running.{numberOf, numberText, answeredIn, endText, answering}
 
 -- the line that a buffer holds; one that is too long is answered as one of which nothing is kept
-held-answered : (n : ℕ) (line : List ℕ) (len : ℕ) (cs : List ℕ) → length line ≡ 1200 → Holds line len cs → answeredIn n line len ≡ answerOf (numberText n) cs
+held-answered : (n : ℕ) (line : List ℕ) (len : ℕ) (cs : List ℕ) → length line ≡ 1200 → Holds line len cs
+    → answeredIn n line len ≡ answerOf (numberText n) cs
 unfolding answeredIn
 held-answered n line len cs z h = by (ltb 1200 (length cs)) refl
   where
@@ -82,7 +83,8 @@ pub fewer-left : (n m : ℕ) → n < 0xFFFFFFFFFFFFFFFF → m ≡ numberOf n →
 fewer-left n m h e = omega arith
 
 -- the answer, with the number put together
-pub with-number : (n : ℕ) (line : List ℕ) (len : ℕ) (none number : Text) (m k : ℕ) (r : Text) → none ≡ noText → m ≡ numberOf n → number ≡ put none (decimalText m)
+pub with-number : (n : ℕ) (line : List ℕ) (len : ℕ) (none number : Text) (m k : ℕ) (r : Text) → none ≡ noText
+    → m ≡ numberOf n → number ≡ put none (decimalText m)
     → take k (number .bytes) ≡ take (number .len) (number .bytes)
     → r ≡ choose (ltb (length line) len) (overText (take k (number .bytes))) (answerOf (take k (number .bytes)) (take len line))
     → r ≡ answeredIn n line len

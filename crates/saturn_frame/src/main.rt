@@ -1,4 +1,4 @@
-// Bodies built and explained: standard input has one request a line, standard output its answer.
+// Lists of frames: a line each on standard input, its answer on standard output.
 fn main() {
     framing::run();
 }

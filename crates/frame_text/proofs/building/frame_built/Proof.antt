@@ -42,22 +42,26 @@ returns : tie.Need-returns
 returns c =
     let a = c .before .before .before .before .before .before .before .before .before .args in
     let w = c .before .before .before .before .before .before .write-frame .ensures in
-    c .add-body .ensures ∙ built-sent (a .addr) (a .f) (a .«data» .now) _ (sym (w .0) ∙ c .before .before .before .n .given .1) _ _ (rw (c .before .before .before .n .given .1) at (w .1)) (a .t)
+    let n = c .before .before .before .n .given in
+    c .add-body .ensures ∙ built-sent (a .addr) (a .f) (a .«data» .now) _ (sym (w .0) ∙ n .1) _ _ (rw (n .1) at (w .1)) (a .t)
 
 returns-2 : tie.Need-returns-2
 returns-2 c =
     let a = c .before .before .before .before .before .before .before .args in
-    built-by (a .addr) (a .f) (a .«data» .now) (a .t) _ _ (sym (c .before .before .before .before .write-frame .ensures .0) ∙ c .before .enum-told .given .1) (c .refused .ensures)
+    built-by (a .addr) (a .f) (a .«data» .now) (a .t) _ _
+    (sym (c .before .before .before .before .write-frame .ensures .0) ∙ c .before .enum-told .given .1) (c .refused .ensures)
 
 returns-3 : tie.Need-returns-3
 returns-3 c =
     let a = c .before .before .before .before .before .before .before .args in
-    built-by (a .addr) (a .f) (a .«data» .now) (a .t) _ _ (sym (c .before .before .before .before .write-frame .ensures .0) ∙ c .before .enum-told2 .given .1) (c .refused2 .ensures)
+    built-by (a .addr) (a .f) (a .«data» .now) (a .t) _ _
+    (sym (c .before .before .before .before .write-frame .ensures .0) ∙ c .before .enum-told2 .given .1) (c .refused2 .ensures)
 
 returns-4 : tie.Need-returns-4
 returns-4 c =
     let a = c .before .before .before .before .before .before .args in
-    built-by (a .addr) (a .f) (a .«data» .now) (a .t) _ _ (sym (c .before .before .before .write-frame .ensures .0) ∙ c .enum-told3 .given .1) refl
+    built-by (a .addr) (a .f) (a .«data» .now) (a .t) _ _
+    (sym (c .before .before .before .write-frame .ensures .0) ∙ c .enum-told3 .given .1) refl
 
 pub frame-built-spec : {M : Type 1} → statement M
 frame-built-spec =

@@ -22,7 +22,9 @@ numbers-of-requires : tie.Need-numbers-of-requires
 numbers-of-requires c κs = search needs
 
 add-fields-requires : tie.Need-add-fields-requires
-add-fields-requires c κs = form-holds (c .before .before .before .before .before .kind-of .result) _ (c .before .before .before .before .form-of .ensures) .2
+add-fields-requires c κs =
+    let k = c .before .before .before .before .before .kind-of in
+    form-holds (k .result) _ (c .before .before .before .before .form-of .ensures) .2
 
 has-data-requires : tie.Need-has-data-requires
 has-data-requires c κs = search needs
@@ -38,13 +40,30 @@ add-data-requires c κs = search needs
 
 returns : tie.Need-returns
 returns c =
-    rw (c .add-data .ensures, c .before .add .ensures, c .before .before .before .before .before .add-fields .ensures, c .before .before .before .before .before .before .before .add-word .ensures, c .before .before .before .before .before .before .numbers-of .ensures, form-holds (c .before .before .before .before .before .before .before .before .before .before .before .kind-of .result) _ (c .before .before .before .before .before .before .before .before .before .before .form-of .ensures) .0, form-holds (c .before .before .before .before .before .before .before .before .before .before .before .kind-of .result) _ (c .before .before .before .before .before .before .before .before .before .before .form-of .ensures) .1, c .before .before .before .before .before .before .before .before .before .before .before .kind-of .ensures)
-    (frame-data (c .before .before .before .before .before .before .before .before .before .before .before .before .before .args .t) (c .before .before .before .before .before .before .before .before .before .before .before .before .before .args .addr) (c .before .before .before .before .before .before .before .before .before .before .before .before .before .args .f) (c .before .before .before .before .before .before .before .before .before .before .before .before .before .args .bytes .now) (rw (c .before .before .before .before .before .before .before .before .before .before .before .kind-of .ensures) at (sym (c .before .before .before .before .has-data .ensures) ∙ c .before .before .before .if1 .taken)))
+    let a = c .before .before .before .before .before .before .before .before .before .before .before .before .before .args in
+    let k = c .before .before .before .before .before .before .before .before .before .before .before .kind-of in
+    let h = form-holds (k .result) _ (c .before .before .before .before .before .before .before .before .before .before .form-of .ensures) in
+    let d = sym (c .before .before .before .before .has-data .ensures) ∙ c .before .before .before .if1 .taken in
+    rw (
+      c .add-data .ensures,
+      c .before .add .ensures,
+      c .before .before .before .before .before .add-fields .ensures,
+      c .before .before .before .before .before .before .before .add-word .ensures,
+      c .before .before .before .before .before .before .numbers-of .ensures,
+      h .0,
+      h .1,
+      k .ensures,
+    )
+    (frame-data (a .t) (a .addr) (a .f) (a .bytes .now) (rw (k .ensures) at d))
 
 returns-2 : tie.Need-returns-2
 returns-2 c =
-    rw (c .before .before .add-fields .ensures, c .before .before .before .before .add-word .ensures, c .before .before .before .numbers-of .ensures, form-holds (c .before .before .before .before .before .before .before .before .kind-of .result) _ (c .before .before .before .before .before .before .before .form-of .ensures) .0, form-holds (c .before .before .before .before .before .before .before .before .kind-of .result) _ (c .before .before .before .before .before .before .before .form-of .ensures) .1, c .before .before .before .before .before .before .before .before .kind-of .ensures)
-    (frame-plain (c .before .before .before .before .before .before .before .before .before .before .args .t) (c .before .before .before .before .before .before .before .before .before .before .args .addr) (c .before .before .before .before .before .before .before .before .before .before .args .f) (c .before .before .before .before .before .before .before .before .before .before .args .bytes .now) (rw (c .before .before .before .before .before .before .before .before .kind-of .ensures) at (sym (c .before .has-data .ensures) ∙ c .if1 .left)))
+    let a = c .before .before .before .before .before .before .before .before .before .before .args in
+    let k = c .before .before .before .before .before .before .before .before .kind-of in
+    let h = form-holds (k .result) _ (c .before .before .before .before .before .before .before .form-of .ensures) in
+    let d = sym (c .before .has-data .ensures) ∙ c .if1 .left in
+    rw (c .before .before .add-fields .ensures, c .before .before .before .before .add-word .ensures, c .before .before .before .numbers-of .ensures, h .0, h .1, k .ensures)
+    (frame-plain (a .t) (a .addr) (a .f) (a .bytes .now) (rw (k .ensures) at d))
 
 pub frame-text-spec : {M : Type 1} → statement M
 frame-text-spec =

@@ -68,31 +68,49 @@ refused-requires-8 : tie.Need-refused-requires-8
 refused-requires-8 c κs = search needs
 
 returns : tie.Need-returns
-returns c = read-by _ (c .before .before .before .before .before .before .before .before .args .body .now) _ _ (c .before .before .before .before .before .before .read-frame .ensures .0) (rw (c .before .before .before .reading .given .1) (c .frame-text .ensures))
+returns c =
+    let r = c .before .before .before .before .before .before in
+    read-by _ (r .before .before .args .body .now) _ _ (r .read-frame .ensures .0) (rw (c .before .before .before .reading .given .1) (c .frame-text .ensures))
 
 returns-2 : tie.Need-returns-2
-returns-2 c = read-by _ (c .before .before .before .before .before .before .args .body .now) _ _ (c .before .before .before .before .read-frame .ensures .0) (rw (c .before .enum-told .given .1) (c .refused .ensures))
+returns-2 c =
+    let r = c .before .before .before .before in
+    read-by _ (r .before .before .args .body .now) _ _ (r .read-frame .ensures .0) (rw (c .before .enum-told .given .1) (c .refused .ensures))
 
 returns-3 : tie.Need-returns-3
-returns-3 c = read-by _ (c .before .before .before .before .before .before .args .body .now) _ _ (c .before .before .before .before .read-frame .ensures .0) (rw (c .before .enum-told2 .given .1) (c .refused2 .ensures))
+returns-3 c =
+    let r = c .before .before .before .before in
+    read-by _ (r .before .before .args .body .now) _ _ (r .read-frame .ensures .0) (rw (c .before .enum-told2 .given .1) (c .refused2 .ensures))
 
 returns-4 : tie.Need-returns-4
-returns-4 c = read-by _ (c .before .before .before .before .before .before .args .body .now) _ _ (c .before .before .before .before .read-frame .ensures .0) (rw (c .before .enum-told3 .given .1) (c .refused3 .ensures))
+returns-4 c =
+    let r = c .before .before .before .before in
+    read-by _ (r .before .before .args .body .now) _ _ (r .read-frame .ensures .0) (rw (c .before .enum-told3 .given .1) (c .refused3 .ensures))
 
 returns-5 : tie.Need-returns-5
-returns-5 c = read-by _ (c .before .before .before .before .before .before .args .body .now) _ _ (c .before .before .before .before .read-frame .ensures .0) (rw (c .before .enum-told4 .given .1) (c .refused4 .ensures))
+returns-5 c =
+    let r = c .before .before .before .before in
+    read-by _ (r .before .before .args .body .now) _ _ (r .read-frame .ensures .0) (rw (c .before .enum-told4 .given .1) (c .refused4 .ensures))
 
 returns-6 : tie.Need-returns-6
-returns-6 c = read-by _ (c .before .before .before .before .before .before .args .body .now) _ _ (c .before .before .before .before .read-frame .ensures .0) (rw (c .before .enum-told5 .given .1) (c .refused5 .ensures))
+returns-6 c =
+    let r = c .before .before .before .before in
+    read-by _ (r .before .before .args .body .now) _ _ (r .read-frame .ensures .0) (rw (c .before .enum-told5 .given .1) (c .refused5 .ensures))
 
 returns-7 : tie.Need-returns-7
-returns-7 c = read-by _ (c .before .before .before .before .before .before .args .body .now) _ _ (c .before .before .before .before .read-frame .ensures .0) (rw (c .before .enum-told6 .given .1) (c .refused6 .ensures))
+returns-7 c =
+    let r = c .before .before .before .before in
+    read-by _ (r .before .before .args .body .now) _ _ (r .read-frame .ensures .0) (rw (c .before .enum-told6 .given .1) (c .refused6 .ensures))
 
 returns-8 : tie.Need-returns-8
-returns-8 c = read-by _ (c .before .before .before .before .before .before .args .body .now) _ _ (c .before .before .before .before .read-frame .ensures .0) (rw (c .before .enum-told7 .given .1) (c .refused7 .ensures))
+returns-8 c =
+    let r = c .before .before .before .before in
+    read-by _ (r .before .before .args .body .now) _ _ (r .read-frame .ensures .0) (rw (c .before .enum-told7 .given .1) (c .refused7 .ensures))
 
 returns-9 : tie.Need-returns-9
-returns-9 c = read-by _ (c .before .before .before .before .before .before .args .body .now) _ _ (c .before .before .before .before .read-frame .ensures .0) (rw (c .before .enum-told8 .given .1) (c .refused8 .ensures))
+returns-9 c =
+    let r = c .before .before .before .before in
+    read-by _ (r .before .before .args .body .now) _ _ (r .read-frame .ensures .0) (rw (c .before .enum-told8 .given .1) (c .refused8 .ensures))
 
 pub read-text-spec : {M : Type 1} → statement M
 read-text-spec =

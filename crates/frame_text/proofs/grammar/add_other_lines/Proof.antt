@@ -29,7 +29,8 @@ add-requires-4 c κs = search needs
 
 returns : tie.Need-returns
 returns c =
-    rw (c .add4 .ensures, c .before .before .add3 .ensures, c .before .before .before .before .add2 .ensures, c .before .before .before .before .before .before .add .ensures)
+    let port = c .before .before .before .before in
+    rw (c .add4 .ensures, c .before .before .add3 .ensures, port .add2 .ensures, port .before .before .add .ensures)
 
 pub add-other-lines-spec : {M : Type 1} → statement M
 add-other-lines-spec =

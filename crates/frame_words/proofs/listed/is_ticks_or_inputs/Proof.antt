@@ -18,7 +18,7 @@ is-word-requires : tie.Need-is-word-requires
 is-word-requires c κs = search needs
 
 slice-aggregate-is-word-3 : tie.Need-slice-aggregate-is-word-3
-slice-aggregate-is-word-3 c = first-length (c .before .before .before .before .before .before .args .line .now) _ (c .before .before .before .before .word-end .ensures)
+slice-aggregate-is-word-3 c = let w = c .before .before .before .before in first-length (w .before .before .args .line .now) _ (w .word-end .ensures)
 
 slice-aggregate-is-word-4 : tie.Need-slice-aggregate-is-word-4
 slice-aggregate-is-word-4 c = search needs
@@ -29,8 +29,8 @@ is-word-requires-2 c κs = search needs
 returns : tie.Need-returns
 unfolding isTicksOrInputs
 returns c =
-    let e = c .before .before .before .before .before .before .word-end .ensures in
-    rw (c .before .before .before .is-word .ensures, c .is-word2 .ensures, word-first (c .before .before .before .before .before .before .before .before .args .line .now) _ e)
+    let w = c .before .before .before .before .before .before in
+    rw (c .before .before .before .is-word .ensures, c .is-word2 .ensures, word-first (w .before .before .args .line .now) _ (w .word-end .ensures))
 
 pub is-ticks-or-inputs-spec : {M : Type 1} → statement M
 is-ticks-or-inputs-spec =

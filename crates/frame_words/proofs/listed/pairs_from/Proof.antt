@@ -21,13 +21,19 @@ enum-told-3 : tie.Need-enum-told-3
 enum-told-3 c = search needs
 
 returns : tie.Need-returns
-returns c = bytes-are-pairs 600 _ (c .before .before .before .before .before .before .args .line .now) _ (sym (c .enum-told .given .1) ∙ c .before .before .before .hex-bytes .ensures .0)
+returns c =
+    let r = c .before .before .before in
+    bytes-are-pairs 600 _ (r .before .before .before .args .line .now) _ (sym (c .enum-told .given .1) ∙ r .hex-bytes .ensures .0)
 
 returns-2 : tie.Need-returns-2
-returns-2 c = others-are-not 600 (c .before .before .before .before .before .before .args .line .now) _ (sym (c .enum-told2 .given .1) ∙ c .before .before .before .hex-bytes .ensures .0)
+returns-2 c =
+    let r = c .before .before .before in
+    others-are-not 600 (r .before .before .before .args .line .now) _ (sym (c .enum-told2 .given .1) ∙ r .hex-bytes .ensures .0)
 
 returns-3 : tie.Need-returns-3
-returns-3 c = more-are-pairs 600 (c .before .before .before .before .before .before .args .line .now) _ (sym (c .enum-told3 .given .1) ∙ c .before .before .before .hex-bytes .ensures .0)
+returns-3 c =
+    let r = c .before .before .before in
+    more-are-pairs 600 (r .before .before .before .args .line .now) _ (sym (c .enum-told3 .given .1) ∙ r .hex-bytes .ensures .0)
 
 pub pairs-from-spec : {M : Type 1} → statement M
 pairs-from-spec =

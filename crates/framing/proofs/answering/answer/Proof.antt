@@ -31,7 +31,9 @@ no-text-requires : tie.Need-no-text-requires
 no-text-requires c κs = search needs
 
 returns-2 : tie.Need-returns-2
-returns-2 c = c .no-text .ensures ∙ sym (answer-silent _ _ (c .before .before .before .if1 .left) (sym (c .before .before .is-silent .ensures) ∙ c .before .if2 .taken))
+returns-2 c =
+    let d = c .before .before in
+    c .no-text .ensures ∙ sym (answer-silent _ _ (d .before .if1 .left) (sym (d .is-silent .ensures) ∙ c .before .if2 .taken))
 
 is-ticks-or-inputs-requires : tie.Need-is-ticks-or-inputs-requires
 is-ticks-or-inputs-requires c κs = search needs
@@ -41,9 +43,10 @@ passed-requires c κs = search needs
 
 returns-3 : tie.Need-returns-3
 returns-3 c =
+    let d = c .before .before in
+    let e2 = d .before in
     c .passed .ensures
-    ∙ sym (answer-ticks _ _ (c .before .before .before .before .before .if1 .left) (loud (c .before .before .before))
-    (sym (c .before .before .is-ticks-or-inputs .ensures) ∙ c .before .if3 .taken))
+    ∙ sym (answer-ticks _ _ (e2 .before .before .if1 .left) (loud e2) (sym (d .is-ticks-or-inputs .ensures) ∙ c .before .if3 .taken))
 
 is-port-body-requires : tie.Need-is-port-body-requires
 is-port-body-requires c κs = search needs
@@ -53,9 +56,11 @@ passed-requires-2 c κs = search needs
 
 returns-4 : tie.Need-returns-4
 returns-4 c =
+    let d = c .before .before in
+    let e3 = d .before in
+    let e2 = e3 .before .before in
     c .passed2 .ensures
-    ∙ sym (answer-body _ _ (c .before .before .before .before .before .before .before .if1 .left) (loud (c .before .before .before .before .before)) (no-ticks (c .before .before .before))
-    (sym (c .before .before .is-port-body .ensures) ∙ c .before .if4 .taken))
+    ∙ sym (answer-body _ _ (e2 .before .before .if1 .left) (loud e2) (no-ticks e3) (sym (d .is-port-body .ensures) ∙ c .before .if4 .taken))
 
 has-port-requires : tie.Need-has-port-requires
 has-port-requires c κs = search needs
@@ -65,9 +70,12 @@ behind-port-requires c κs = (c .before .before .before .before .before .before 
 
 returns-5 : tie.Need-returns-5
 returns-5 c =
+    let d = c .before .before in
+    let e4 = d .before in
+    let e3 = e4 .before .before in
+    let e2 = e3 .before .before in
     c .behind-port .ensures
-    ∙ sym (answer-port _ _ (c .before .before .before .before .before .before .before .before .before .if1 .left) (loud (c .before .before .before .before .before .before .before))
-    (no-ticks (c .before .before .before .before .before)) (no-body (c .before .before .before)) (sym (c .before .before .has-port .ensures) ∙ c .before .if5 .taken))
+    ∙ sym (answer-port _ _ (e2 .before .before .if1 .left) (loud e2) (no-ticks e3) (no-body e4) (sym (d .has-port .ensures) ∙ c .before .if5 .taken))
 
 no-text-requires-2 : tie.Need-no-text-requires-2
 no-text-requires-2 c κs = search needs
@@ -80,9 +88,12 @@ end-line-requires c κs = search needs
 
 returns-6 : tie.Need-returns-6
 returns-6 c =
+    let d = c .before .before .before .before in
+    let e4 = d .before in
+    let e3 = e4 .before .before in
+    let e2 = e3 .before .before in
     c .end-line .ensures ∙ ap endLine (rw (c .before .before .no-text2 .ensures) at (c .before .asked .ensures))
-    ∙ sym (answer-plain _ _ (c .before .before .before .before .before .before .before .before .before .before .before .if1 .left) (loud (c .before .before .before .before .before .before .before .before .before))
-    (no-ticks (c .before .before .before .before .before .before .before)) (no-body (c .before .before .before .before .before)) (sym (c .before .before .before .before .has-port .ensures) ∙ c .before .before .before .if5 .left))
+    ∙ sym (answer-plain _ _ (e2 .before .before .if1 .left) (loud e2) (no-ticks e3) (no-body e4) (sym (d .has-port .ensures) ∙ c .before .before .before .if5 .left))
 
 pub answer-spec : {M : Type 1} → statement M
 answer-spec =

@@ -1,11 +1,18 @@
 -- `asking::asked` meets its contract, by the line's first word. Assumes nothing.
-use mathlib.Core.Path.{sym, ap, _∙_}
+use mathlib.Core.Path.{_≡_, sym, ap, _∙_}
+use Rattle.frame_words.specs.Words.{wordAt}
 use Rattle.frame_words.specs.Called.{called}
 use Rattle.frame_words.proofs.WordLaws.{word-first, first-length}
 use Rattle.framing.proofs.OutcomeLaws.{asked-by}
 use borrow.Author.Needs.{needs}
 use Rattle.framing.proofs.asking.asked.Statement.{statement}
 use Rattle.framing.proofs.asking.asked.Tie as tie
+
+-- what the line is called
+named : (c : tie.After-called-by) → called (wordAt (c .before .before .before .before .before .args .line .now) 0) ≡ c .called-by .result
+named c =
+    let s = c .before .before .before .before .before .args .line .now in
+    ap called (sym (word-first s _ (c .before .before .word-end .ensures))) ∙ sym (c .called-by .ensures)
 
 word-end-requires : tie.Need-word-end-requires
 word-end-requires c κs = search needs
@@ -39,27 +46,21 @@ bad-requires c κs = search needs
 
 returns : tie.Need-returns
 returns c =
-    let a = c .before .before .before .before .before .before .before .before .before .args in
-    rw (
-      asked-by (a .line .now) _
-          (ap called (sym (word-first (a .line .now) _ (c .before .before .before .before .before .before .word-end .ensures))) ∙ sym (c .before .before .before .before .called-by .ensures) ∙ c .before .before .kind .given .1),
-      ← c .before .before .before .before .before .before .word-end .ensures,
-    ) (c .by-kind .ensures)
+    let d = c .before .before .before .before in
+    let s = d .before .before .before .before .before .args .line .now in
+    rw (asked-by s _ (named d ∙ c .before .before .kind .given .1), ← d .before .before .word-end .ensures) (c .by-kind .ensures)
 
 returns-2 : tie.Need-returns-2
 returns-2 c =
-    let a = c .before .before .before .before .before .before .before .before .args in
-    rw (
-      asked-by (a .line .now) _
-          (ap called (sym (word-first (a .line .now) _ (c .before .before .before .before .before .word-end .ensures))) ∙ sym (c .before .before .before .called-by .ensures) ∙ c .before .enum-told .given .1),
-      ← c .before .before .before .before .before .word-end .ensures,
-    ) (c .by-body .ensures)
+    let d = c .before .before .before in
+    let s = d .before .before .before .before .before .args .line .now in
+    rw (asked-by s _ (named d ∙ c .before .enum-told .given .1), ← d .before .before .word-end .ensures) (c .by-body .ensures)
 
 returns-3 : tie.Need-returns-3
 returns-3 c =
-    let a = c .before .before .before .before .before .before .before .before .before .args in
-    rw (asked-by (a .line .now) _
-    (ap called (sym (word-first (a .line .now) _ (c .before .before .before .before .before .before .word-end .ensures))) ∙ sym (c .before .before .before .before .called-by .ensures) ∙ c .before .before .enum-told2 .given .1)) (c .bad .ensures)
+    let d = c .before .before .before .before in
+    let s = d .before .before .before .before .before .args .line .now in
+    rw (asked-by s _ (named d ∙ c .before .before .enum-told2 .given .1)) (c .bad .ensures)
 
 pub asked-spec : {M : Type 1} → statement M
 asked-spec =
