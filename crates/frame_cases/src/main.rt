@@ -1,6 +1,10 @@
 // Cases of frames, read and written: standard input has one a line, standard output its answer.
-use cases::Cases;
+mod answers;
+mod fields_in;
+mod fields_out;
+mod frame_case;
+mod running;
 
 fn main() {
-    cases::run(Cases::Frame);
+    running::run();
 }

@@ -3,8 +3,8 @@ use mathlib.Core.Path.{_≡_}
 use Prim.Native.Nat.{_-_}
 use lib.ListN.{length}
 use borrow.Author.Needs.{needs}
-use Rattle.cases.proofs.fields_out.put_frame.Statement.{statement}
-use Rattle.cases.proofs.fields_out.put_frame.Tie as tie
+use Rattle.frame_cases.proofs.fields_out.put_frame.Statement.{statement}
+use Rattle.frame_cases.proofs.fields_out.put_frame.Tie as tie
 
 abbrev Inv-loop : tie.InvT-loop
 Inv-loop out₀ at kind values widths to₀ i₀ out to i = length out ≡ length out₀

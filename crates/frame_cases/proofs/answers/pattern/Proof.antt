@@ -3,8 +3,8 @@ use mathlib.Core.Path.{_≡_, refl}
 use Prim.Native.Nat.{_-_}
 use lib.ListN.{length}
 use borrow.Author.Needs.{needs}
-use Rattle.cases.proofs.answers.pattern.Statement.{statement}
-use Rattle.cases.proofs.answers.pattern.Tie as tie
+use Rattle.frame_cases.proofs.answers.pattern.Statement.{statement}
+use Rattle.frame_cases.proofs.answers.pattern.Tie as tie
 
 abbrev Inv-loop : tie.InvT-loop
 Inv-loop buf₀ i₀ buf i = length buf ≡ 600
