@@ -19,7 +19,7 @@ use Rattle.cases.specs.Cases.{byOperation, answerText, Says}
 use Rattle.cases.proofs.CaseLaws.{none-in}
 
 -- what was written from the start on
-front : (out s : List ℕ) (r : ℕ) (out′ : List ℕ) → length s ≤ length out → Wrote out 0 s r out′ → take r out′ ≡ s
+pub front : (out s : List ℕ) (r : ℕ) (out′ : List ℕ) → length s ≤ length out → Wrote out 0 s r out′ → take r out′ ≡ s
 front out s r out′ h w =
     let e : r ≡ length s = omega (arith, w .0) in
     ap₂ take e (w .1 ∙ sets-front out s h) ∙ take-at s (drop (length s) out) (length s) refl

@@ -1,8 +1,5 @@
 // Cases of frames, read and written: standard input has one a line, standard output its answer.
-mod answers;
-mod fields_in;
-mod fields_out;
-mod frame_case;
+mod answering;
 mod running;
 
 fn main() {

@@ -1,6 +1,6 @@
 // The frames of the bus: their kinds, read from application data and written to the line.
 pub mod kinds;
 pub mod number;
-mod putting;
+pub mod putting;
 pub mod reading;
 pub mod writing;
