@@ -1,6 +1,7 @@
 // Cases of bodies, read and laid down: standard input has one a line, standard output its answer.
-use cases::Cases;
+mod answering;
+mod running;
 
 fn main() {
-    cases::run(Cases::Body);
+    running::run();
 }

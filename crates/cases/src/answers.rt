@@ -1,64 +1,74 @@
-// What the answers of the case programs are made of.
+// A line of a case program: the bytes of its case, and the answer in hex digits. Both are bytes by value; an answer of none is BAD.
+ghost use mathlib.Core.Path.{_≡_};
+ghost use lib.ListN.{length, take};
+ghost use Rattle.text.specs.Putting.{putAt, placeAfter};
+ghost use Rattle.frame_words.specs.Texts.{textIn};
+ghost use Rattle.cases.specs.Cases.{caseOf, caseIn, answerText};
+use console::blocks;
+use frame_words::texts;
+use frame_words::texts::Text;
+use text::hex;
+use text::hex::Hex;
+use text::lines::LF;
 use text::putting;
-use wire::laying;
-use wire::laying::Laid;
 
-// The longest buffer that a case may ask for.
-pub const MOST: usize = 600;
-
-// A line that is no case.
-pub fn bad(out: &mut [u8]) -> usize {
-    putting::put_text(out, 0, b"BAD")
-}
-
-// Two bytes as a number, high byte first.
-pub fn word(high: u8, low: u8) -> usize {
-    high as usize * 256 + low as usize
-}
-
-// A number in four digits.
-pub fn put_word(out: &mut [u8], at: usize, n: usize) -> usize {
-    let next = putting::put_byte(out, at, (n / 256 % 256) as u8);
-    putting::put_byte(out, next, (n % 256) as u8)
-}
-
-// So many bytes of a slice from a place on, where it has them.
-pub fn put_part(out: &mut [u8], at: usize, bytes: &[u8], from: usize, n: usize) -> usize {
-    if bytes.len() < from {
-        return at;
+// The bytes of a line: none where it is longer than 1,200 characters, or not pairs of hex digits.
+fn case_of(line: &[u8]) -> Text
+    ensures { λ r. ⌜ textIn r ≡ caseOf (now (line .entry)) ⌝ }
+{
+    if 1200 < line.len() {
+        return texts::no_text();
     }
-    if bytes.len() - from < n {
-        return at;
+    let mut bytes = text::lines::no_line();
+    match hex::hex_bytes(line, 0, &mut bytes) {
+        Hex::Bytes(n) => Text { bytes, len: n },
+        Hex::NotHex => texts::no_text(),
+        Hex::NoRoom => texts::no_text(),
     }
-    putting::put_bytes(out, at, &bytes[from..from + n])
 }
 
-pub fn put_first(out: &mut [u8], at: usize, bytes: &[u8], n: usize) -> usize {
-    put_part(out, at, bytes, 0, n)
-}
-
-// The buffer before a frame is laid into it: byte i is i modulo 251.
-pub fn pattern() -> [u8; 600] {
-    let mut buf = [0u8; 600];
-    let mut i: usize = 0;
-    while i < 600 {
-        buf[i] = (i % 251) as u8;
-        i += 1;
+// A line of `len` characters, of which the buffer keeps the first.
+pub fn case_in(line: &[u8], len: usize) -> Text
+    ensures { λ r. ⌜ textIn r ≡ caseIn (now (line .entry)) len ⌝ }
+{
+    if line.len() < len {
+        return texts::no_text();
     }
-    buf
+    case_of(&line[..len])
 }
 
-// A laying down: its number, the length on the line, and the first `room` bytes of the buffer.
-pub fn put_laid(out: &mut [u8], laid: Laid, buf: &[u8], room: usize) -> usize {
-    let a = putting::put_byte(out, 0, laying::laid_number(laid));
-    let b = put_word(out, a, laid_len(laid));
-    put_first(out, b, buf, room)
+// An answer as text: room for 1,200 bytes in hex digits, and the LF.
+struct Line {
+    bytes: [u8; 2401],
+    len: usize,
 }
 
-// The length on the line; none for a refusal.
-fn laid_len(laid: Laid) -> usize {
-    match laid {
-        Laid::Sent(n) => n,
-        _ => 0,
+fn no_characters() -> [u8; 2401]
+    ensures { λ r. ⌜ 2401 ≡ length r ⌝ }
+{
+    [0; 2401]
+}
+
+fn answer_text(t: Text) -> Line
+    ensures { λ r. ⌜ take (r .len) (r .bytes) ≡ answerText (textIn t) ⌝ }
+{
+    let answer = t.bytes;
+    let mut bytes = no_characters();
+    let n = blocks::least(answer.len(), t.len);
+    if n == 0 {
+        let len = putting::put_text(&mut bytes, 0, b"BAD\n");
+        return Line { bytes, len };
     }
+    let end = putting::put_bytes(&mut bytes, 0, &answer[..n]);
+    let len = putting::put_text(&mut bytes, end, &[LF]);
+    Line { bytes, len }
+}
+
+// The same put at a place of the output; the next place.
+pub fn put_answer(t: Text, out: &mut [u8], at: usize) -> usize
+    ensures { λ r. ⌜ (r ≡ placeAfter (length (now (out .entry))) at (answerText (textIn t))) × (now (out .exit) ≡ putAt (now (out .entry)) at (answerText (textIn t))) ⌝ }
+{
+    let line = answer_text(t);
+    let bytes = line.bytes;
+    blocks::put_first(out, at, &bytes, line.len)
 }

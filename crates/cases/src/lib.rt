@@ -1,11 +1,3 @@
-// The case programs: each line of standard input is one case, written in hex digits, and each prints one line.
-mod answers;
-mod body_case;
-mod crc_case;
-mod fields_in;
-mod fields_out;
-mod frame_case;
-mod running;
-
-pub use running::Cases;
-pub use running::run;
+// What the case programs share: the bytes of a line's case, the text of an answer, and what a laying down is answered.
+pub mod answers;
+pub mod layings;

@@ -1,6 +1,7 @@
 // Cases of CRCs: standard input has one a line, standard output its answer.
-use cases::Cases;
+mod answering;
+mod running;
 
 fn main() {
-    cases::run(Cases::Crc);
+    running::run();
 }

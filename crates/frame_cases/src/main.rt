@@ -1,6 +1,7 @@
 // Cases of frames, read and written: standard input has one a line, standard output its answer.
-use cases::Cases;
+mod answering;
+mod running;
 
 fn main() {
-    cases::run(Cases::Frame);
+    running::run();
 }

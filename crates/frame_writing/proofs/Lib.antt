@@ -7,5 +7,4 @@ pub mod BothWays
 pub mod Sizes
 pub mod Sending
 pub mod LineBothWays
-pub mod Runs
 pub mod WritingLaws

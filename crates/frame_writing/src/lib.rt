@@ -1,3 +1,2 @@
 // Writing frames to the line, and the theorems that reading and writing undo each other.
-mod putting;
 pub mod writing;

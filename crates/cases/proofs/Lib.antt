@@ -1,0 +1,4 @@
+pub mod CaseLaws
+pub mod AnswerLaws
+pub mod LayingLaws
+pub mod RunningLaws
