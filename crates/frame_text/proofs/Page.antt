@@ -1,12 +1,16 @@
 -- The page of the grammar is printed whole: these lines, each with its LF. Assumes nothing.
-use mathlib.Core.Path.{_≡_, refl}
+use mathlib.Core.Path.{_≡_, refl, ap, _∙_}
+use mathlib.Core.Bool.{Bool, true, false}
 use mathlib.Core.List.{List, [], _∷_, _++_}
 use Prim.Native.Nat.{ℕ}
-use Rattle.text.specs.Putting.{putAt, placeAfter}
+use native.Mathlib.Omega.{arith}
+use lib.ListN.{length, take}
 use Rattle.frame_words.specs.Chars.{chars}
-use Rattle.frame_words.specs.Texts.{noText, put, textIn}
-use Rattle.frame_words.proofs.TextLaws.{joined}
-use Rattle.frame_text.specs.Grammar.{formField, formFields, formText, grammarText}
+use Rattle.frame_words.specs.Table.{Field, kindWord, fieldsOf, hasData}
+use Rattle.frame_words.specs.Texts.{noText, puts, textIn}
+use Rattle.frame_words.specs.declared.table.Kind.{Kind}
+use Rattle.frame_words.proofs.TextLaws.{joined, pieces-are}
+use Rattle.frame_text.specs.Grammar.{formField, formFields, formText, requests, replies, others, otherLines, grammarText}
 
 abbrev page : List (List ℕ)
 page =
@@ -29,6 +33,30 @@ page =
     ∷ chars "# ...: nothing is printed\n"
     ∷ []
 
+-- the pieces that are put together: of a field, of a form with its LF, of all
+abbrev ofField : Field → List (List ℕ)
+ofField f = chars " " ∷ f .0 ∷ take (f .1) (chars "xxxxxxxxxxxxxxxx") ∷ []
+
+abbrev ofFields : List Field → List (List ℕ)
+ofFields [] = []
+ofFields (f ∷ fs) = ofField f ++ ofFields fs
+
+abbrev ofData : Bool → List (List ℕ)
+ofData true = chars " data=xx..." ∷ []
+ofData false = []
+
+abbrev ofForms : List Kind → List (List ℕ)
+ofForms [] = []
+ofForms (k ∷ ks) = kindWord k ∷ (ofFields (fieldsOf k) ++ (ofData (hasData k) ++ ((0x0A ∷ []) ∷ ofForms ks)))
+
+abbrev pieces : List (List ℕ)
+pieces = ofForms requests ++ (ofForms replies ++ (ofForms others ++ otherLines))
+
+put-in-pieces : grammarText ≡ puts noText pieces
+unfolding grammarText formText formFields formField
+put-in-pieces = refl
+
 pub page-is : textIn grammarText ≡ joined page
-unfolding grammarText formText formFields formField noText put putAt placeAfter
-page-is = refl
+page-is =
+    let n : length (joined pieces) ≡ 896 = refl in
+    ap textIn put-in-pieces ∙ pieces-are pieces (omega arith)
