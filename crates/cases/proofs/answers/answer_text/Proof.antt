@@ -1,6 +1,6 @@
 -- `answers::answer_text` meets its contract. Assumes nothing.
 use mathlib.Core.Path.{_≡_, sym, ap, _∙_}
-use mathlib.Core.List.{List}
+use mathlib.Core.List.{[]}
 use Prim.Native.Nat.{ℕ, _≤_, _<_}
 use native.Mathlib.Omega.{arith}
 use borrow.Author.Needs.{needs}
@@ -16,7 +16,8 @@ returns c =
     let n = c .before .before .before .before .before .least in
     let t = c .before .before .before .before .before .before .before .before .args .t in
     let l : length (t .bytes) ≡ 1200 = search needs in
-    answer-bad _ _ _ _ (sym (n .ensures .1 (t .bytes) l) ∙ ap (λ (m : ℕ). take m (t .bytes)) (c .before .before .before .before .if1 .taken)) (sym (c .before .before .before .before .before .before .no-characters .ensures)) (c .before .put-text .ensures)
+    let z : take (t .len) (t .bytes) ≡ [] = sym (n .ensures .1 (t .bytes) l) ∙ ap (λ (m : ℕ). take m (t .bytes)) (c .before .before .before .before .if1 .taken) in
+    answer-bad _ _ _ _ z (sym (c .before .before .before .before .before .before .no-characters .ensures)) (c .before .put-text .ensures)
 
 array-share-prefix-answer : tie.Need-array-share-prefix-answer
 array-share-prefix-answer c =
@@ -37,7 +38,8 @@ returns-2 c =
     let h : n .result ≤ 1200 = n .ensures .0 in
     let k : length (take (n .result) (t .bytes)) ≡ n .result = length-take-le (n .result) (t .bytes) (omega arith) in
     let m : 0 < n .result = omega (arith, c .before .before .before .before .before .before .before .before .if1 .left) in
-    answer-hex (take (n .result) (t .bytes)) _ _ _ _ _ (omega arith) (omega arith) (sym (c .before .before .before .before .before .before .before .before .before .before .no-characters .ensures)) (c .before .before .before .before .before .put-bytes .ensures) (c .before .put-text2 .ensures)
+    let p = c .before .before .before .before .before in
+    answer-hex (take (n .result) (t .bytes)) _ _ _ _ _ (omega arith) (omega arith) (sym (p .before .before .before .before .before .no-characters .ensures)) (p .put-bytes .ensures) (c .before .put-text2 .ensures)
     ∙ ap answerText e
 
 pub answer-text-spec : {M : Type 1} → statement M

@@ -19,13 +19,15 @@ returns-3 : tie.Need-returns-3
 returns-3 c =
     let h = c .before .before .before .before .hex-bytes .ensures in
     let l : length (c .before .before .before .before .before .before .no-line .result) ≡ 1200 = search needs in
-    none-in _ (c .no-text2 .ensures) ∙ case-read (c .before .before .before .before .before .before .before .before .before .args .line .now) _ _ _ _ (c .before .before .before .before .before .before .before .if1 .left) l (h .0) (h .1) (c .before .enum-told .given .1)
+    let e = c .before .before .before .before .before .before .before in
+    none-in _ (c .no-text2 .ensures) ∙ case-read (e .before .before .args .line .now) _ _ _ _ (e .if1 .left) l (h .0) (h .1) (c .before .enum-told .given .1)
 
 returns-4 : tie.Need-returns-4
 returns-4 c =
     let h = c .before .before .before .before .hex-bytes .ensures in
     let l : length (c .before .before .before .before .before .before .no-line .result) ≡ 1200 = search needs in
-    none-in _ (c .no-text3 .ensures) ∙ case-read (c .before .before .before .before .before .before .before .before .before .args .line .now) _ _ _ _ (c .before .before .before .before .before .before .before .if1 .left) l (h .0) (h .1) (c .before .enum-told2 .given .1)
+    let e = c .before .before .before .before .before .before .before in
+    none-in _ (c .no-text3 .ensures) ∙ case-read (e .before .before .args .line .now) _ _ _ _ (e .if1 .left) l (h .0) (h .1) (c .before .enum-told2 .given .1)
 
 pub case-of-spec : {M : Type 1} → statement M
 case-of-spec =
