@@ -6,7 +6,7 @@ use native.Mathlib.Omega.{arith}
 use borrow.Author.Tests.{leb-true, ne-eqb}
 use lib.Dec.{leb}
 use lib.ListN.{length, getD, set}
-use Rattle.base.specs.Bytes.{bytesOf, numberAt}
+use Rattle.base.specs.Bytes.{bytesOf}
 use Rattle.base.proofs.Interval.{holds}
 use Rattle.fields.specs.Fields.{laid, widths, total}
 use Rattle.fields.proofs.Tables.{length-laid}
@@ -14,7 +14,7 @@ use Rattle.frame_kinds.specs.Kinds.{headOf, tailOf}
 use Rattle.frame_kinds.specs.Holding.{paired, heldAs}
 use Rattle.frame_kinds.specs.declared.kinds.Frame.{Frame}
 use Rattle.frame_kinds.specs.declared.kinds.Frame.the-variants.{Sync, SafeRead, SafeWrite, PlainRead, PlainWrite, SafeResponse, PlainSyncResponse, PlainResponse, TidAssignment, SidAssignment, SidAssignment4, Acknowledgement, Invariants}
-use Rattle.case_fields.specs.Kinds.{rowOf, rowIn, frameAt, lengths}
+use Rattle.case_fields.specs.Kinds.{rowOf, rowIn, invariantsAt, frameAt, lengths}
 
 -- a kind's number stands first; the widths behind it, with the numbers of the head, lay the fields; and they are short
 pub record Rows (f : Frame) : Type 0 where
@@ -57,8 +57,7 @@ abbrev Beyond : ℕ → ℕ → Type 0
 Beyond k zero = Unit
 Beyond k (suc n) = Beyond k n × (k ≡ n → ⊥)
 
-pub last-frame : (k : ℕ) (s : List ℕ) → Beyond k 12
-    → Invariants (numberAt s 0 4) (numberAt s 4 4) (numberAt s 8 1) (numberAt s 9 1) (numberAt s 10 2) (numberAt s 12 2) ≡ frameAt k s
+pub last-frame : (k : ℕ) (s : List ℕ) → Beyond k 12 → invariantsAt s ≡ frameAt k s
 unfolding frameAt
 last-frame k s b =
     rw (

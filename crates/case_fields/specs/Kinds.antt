@@ -28,22 +28,62 @@ rowOf (Acknowledgement src dst sec mac) = (0x0B, (4, src) ∷ (4, dst) ∷ (4, s
 rowOf (Invariants dest src cyc seq config logic) =
     (0x0C, (4, dest) ∷ (4, src) ∷ (1, cyc) ∷ (1, seq) ∷ (2, config) ∷ (2, logic) ∷ [])
 
--- and back: the frame of a kind with the fields, STAT among them, that bytes say
+-- and back: the frame of each kind with the fields, STAT among them, that bytes say
+abbrev pub syncAt : List ℕ → Frame
+syncAt s = Sync (numberAt s 0 4) (numberAt s 4 1)
+
+abbrev pub safeReadAt : List ℕ → Frame
+safeReadAt s = SafeRead (numberAt s 0 4) (numberAt s 4 4) (numberAt s 8 1) (numberAt s 9 1) (numberAt s 10 1) (numberAt s 11 1)
+
+abbrev pub safeWriteAt : List ℕ → Frame
+safeWriteAt s = SafeWrite (numberAt s 0 4) (numberAt s 4 4) (numberAt s 8 1) (numberAt s 9 1) (numberAt s 10 1) (numberAt s 11 1)
+
+abbrev pub plainReadAt : List ℕ → Frame
+plainReadAt s = PlainRead (numberAt s 0 1) (numberAt s 1 1) (numberAt s 2 1)
+
+abbrev pub plainWriteAt : List ℕ → Frame
+plainWriteAt s = PlainWrite (numberAt s 0 1) (numberAt s 1 1) (numberAt s 2 1)
+
+abbrev pub safeResponseAt : List ℕ → Frame
+safeResponseAt s = SafeResponse (numberAt s 0 4) (numberAt s 4 4) (numberAt s 8 1) (numberAt s 9 1) (numberAt s 10 1) (numberAt s 11 1) (numberAt s 12 1) (numberAt s 13 1)
+
+abbrev pub plainSyncResponseAt : List ℕ → Frame
+plainSyncResponseAt s = PlainSyncResponse (numberAt s 0 1) (numberAt s 1 1) (numberAt s 2 1) (numberAt s 3 1)
+
+abbrev pub plainResponseAt : List ℕ → Frame
+plainResponseAt s = PlainResponse (numberAt s 0 1) (numberAt s 1 1) (numberAt s 2 1) (numberAt s 3 1)
+
+abbrev pub tidAssignmentAt : List ℕ → Frame
+tidAssignmentAt s = TidAssignment (numberAt s 0 1) (numberAt s 1 8) (numberAt s 9 1)
+
+abbrev pub sidAssignmentAt : List ℕ → Frame
+sidAssignmentAt s = SidAssignment (numberAt s 0 4) (numberAt s 4 4) (numberAt s 8 8) (numberAt s 16 4)
+
+abbrev pub sidAssignment4At : List ℕ → Frame
+sidAssignment4At s = SidAssignment4 (numberAt s 0 4) (numberAt s 4 4) (numberAt s 8 8) (numberAt s 16 4) (numberAt s 20 4) (numberAt s 24 4)
+
+abbrev pub acknowledgementAt : List ℕ → Frame
+acknowledgementAt s = Acknowledgement (numberAt s 0 4) (numberAt s 4 4) (numberAt s 8 4) (numberAt s 12 8)
+
+abbrev pub invariantsAt : List ℕ → Frame
+invariantsAt s = Invariants (numberAt s 0 4) (numberAt s 4 4) (numberAt s 8 1) (numberAt s 9 1) (numberAt s 10 2) (numberAt s 12 2)
+
+-- by the kind's number
 unfoldable pub frameAt : ℕ → List ℕ → Frame
 frameAt kind s =
-    choose (eqb kind 0x00) (Sync (numberAt s 0 4) (numberAt s 4 1))
-    (choose (eqb kind 0x01) (SafeRead (numberAt s 0 4) (numberAt s 4 4) (numberAt s 8 1) (numberAt s 9 1) (numberAt s 10 1) (numberAt s 11 1))
-    (choose (eqb kind 0x02) (SafeWrite (numberAt s 0 4) (numberAt s 4 4) (numberAt s 8 1) (numberAt s 9 1) (numberAt s 10 1) (numberAt s 11 1))
-    (choose (eqb kind 0x03) (PlainRead (numberAt s 0 1) (numberAt s 1 1) (numberAt s 2 1))
-    (choose (eqb kind 0x04) (PlainWrite (numberAt s 0 1) (numberAt s 1 1) (numberAt s 2 1))
-    (choose (eqb kind 0x05) (SafeResponse (numberAt s 0 4) (numberAt s 4 4) (numberAt s 8 1) (numberAt s 9 1) (numberAt s 10 1) (numberAt s 11 1) (numberAt s 12 1) (numberAt s 13 1))
-    (choose (eqb kind 0x06) (PlainSyncResponse (numberAt s 0 1) (numberAt s 1 1) (numberAt s 2 1) (numberAt s 3 1))
-    (choose (eqb kind 0x07) (PlainResponse (numberAt s 0 1) (numberAt s 1 1) (numberAt s 2 1) (numberAt s 3 1))
-    (choose (eqb kind 0x08) (TidAssignment (numberAt s 0 1) (numberAt s 1 8) (numberAt s 9 1))
-    (choose (eqb kind 0x09) (SidAssignment (numberAt s 0 4) (numberAt s 4 4) (numberAt s 8 8) (numberAt s 16 4))
-    (choose (eqb kind 0x0A) (SidAssignment4 (numberAt s 0 4) (numberAt s 4 4) (numberAt s 8 8) (numberAt s 16 4) (numberAt s 20 4) (numberAt s 24 4))
-    (choose (eqb kind 0x0B) (Acknowledgement (numberAt s 0 4) (numberAt s 4 4) (numberAt s 8 4) (numberAt s 12 8))
-    (Invariants (numberAt s 0 4) (numberAt s 4 4) (numberAt s 8 1) (numberAt s 9 1) (numberAt s 10 2) (numberAt s 12 2)))))))))))))
+    choose (eqb kind 0x00) (syncAt s)
+    (choose (eqb kind 0x01) (safeReadAt s)
+    (choose (eqb kind 0x02) (safeWriteAt s)
+    (choose (eqb kind 0x03) (plainReadAt s)
+    (choose (eqb kind 0x04) (plainWriteAt s)
+    (choose (eqb kind 0x05) (safeResponseAt s)
+    (choose (eqb kind 0x06) (plainSyncResponseAt s)
+    (choose (eqb kind 0x07) (plainResponseAt s)
+    (choose (eqb kind 0x08) (tidAssignmentAt s)
+    (choose (eqb kind 0x09) (sidAssignmentAt s)
+    (choose (eqb kind 0x0A) (sidAssignment4At s)
+    (choose (eqb kind 0x0B) (acknowledgementAt s)
+    (invariantsAt s))))))))))))
 
 -- how many bytes the fields of a kind take, 0 to 0C
 abbrev pub lengths : List ℕ

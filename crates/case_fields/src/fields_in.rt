@@ -1,9 +1,8 @@
 // The frame that a case asks for: by kind, each field in its width, high byte first.
 ghost use mathlib.Core.Path.{_≡_};
 ghost use Prim.Native.Nat.{_≤_};
-ghost use Rattle.base.specs.Bytes.{numberAt};
-ghost use Rattle.frame_kinds.specs.declared.kinds.Frame.the-variants.{Sync, SafeRead, SafeWrite, PlainRead, PlainWrite, SafeResponse, PlainSyncResponse, PlainResponse, TidAssignment, SidAssignment, SidAssignment4, Acknowledgement, Invariants};
-ghost use Rattle.case_fields.specs.Kinds.{frameAt, fieldsLen};
+ghost use Rattle.case_fields.specs.Kinds.{syncAt, safeReadAt, safeWriteAt, plainReadAt, plainWriteAt, safeResponseAt, plainSyncResponseAt};
+ghost use Rattle.case_fields.specs.Kinds.{plainResponseAt, tidAssignmentAt, sidAssignmentAt, sidAssignment4At, acknowledgementAt, invariantsAt, frameAt, fieldsLen};
 use fields::byte_field;
 use fields::id_field;
 use fields::sec_field;
@@ -24,7 +23,7 @@ pub fn fields_len(kind: u8) -> usize
 }
 
 fn sync(s: &[u8]) -> Frame
-    ensures { λ r. ⌜ r ≡ Sync (numberAt (now (s .entry)) 0 4) (numberAt (now (s .entry)) 4 1) ⌝ }
+    ensures { λ r. ⌜ r ≡ syncAt (now (s .entry)) ⌝ }
 {
     Frame::Sync {
         src: sec_field(s, 0),
@@ -33,7 +32,7 @@ fn sync(s: &[u8]) -> Frame
 }
 
 fn safe_read(s: &[u8]) -> Frame
-    ensures { λ r. ⌜ r ≡ SafeRead (numberAt (now (s .entry)) 0 4) (numberAt (now (s .entry)) 4 4) (numberAt (now (s .entry)) 8 1) (numberAt (now (s .entry)) 9 1) (numberAt (now (s .entry)) 10 1) (numberAt (now (s .entry)) 11 1) ⌝ }
+    ensures { λ r. ⌜ r ≡ safeReadAt (now (s .entry)) ⌝ }
 {
     Frame::SafeRead {
         dest: sec_field(s, 0),
@@ -46,7 +45,7 @@ fn safe_read(s: &[u8]) -> Frame
 }
 
 fn safe_write(s: &[u8]) -> Frame
-    ensures { λ r. ⌜ r ≡ SafeWrite (numberAt (now (s .entry)) 0 4) (numberAt (now (s .entry)) 4 4) (numberAt (now (s .entry)) 8 1) (numberAt (now (s .entry)) 9 1) (numberAt (now (s .entry)) 10 1) (numberAt (now (s .entry)) 11 1) ⌝ }
+    ensures { λ r. ⌜ r ≡ safeWriteAt (now (s .entry)) ⌝ }
 {
     Frame::SafeWrite {
         dest: sec_field(s, 0),
@@ -59,7 +58,7 @@ fn safe_write(s: &[u8]) -> Frame
 }
 
 fn plain_read(s: &[u8]) -> Frame
-    ensures { λ r. ⌜ r ≡ PlainRead (numberAt (now (s .entry)) 0 1) (numberAt (now (s .entry)) 1 1) (numberAt (now (s .entry)) 2 1) ⌝ }
+    ensures { λ r. ⌜ r ≡ plainReadAt (now (s .entry)) ⌝ }
 {
     Frame::PlainRead {
         src: byte_field(s, 0),
@@ -69,7 +68,7 @@ fn plain_read(s: &[u8]) -> Frame
 }
 
 fn plain_write(s: &[u8]) -> Frame
-    ensures { λ r. ⌜ r ≡ PlainWrite (numberAt (now (s .entry)) 0 1) (numberAt (now (s .entry)) 1 1) (numberAt (now (s .entry)) 2 1) ⌝ }
+    ensures { λ r. ⌜ r ≡ plainWriteAt (now (s .entry)) ⌝ }
 {
     Frame::PlainWrite {
         src: byte_field(s, 0),
@@ -79,7 +78,7 @@ fn plain_write(s: &[u8]) -> Frame
 }
 
 fn safe_response(s: &[u8]) -> Frame
-    ensures { λ r. ⌜ r ≡ SafeResponse (numberAt (now (s .entry)) 0 4) (numberAt (now (s .entry)) 4 4) (numberAt (now (s .entry)) 8 1) (numberAt (now (s .entry)) 9 1) (numberAt (now (s .entry)) 10 1) (numberAt (now (s .entry)) 11 1) (numberAt (now (s .entry)) 12 1) (numberAt (now (s .entry)) 13 1) ⌝ }
+    ensures { λ r. ⌜ r ≡ safeResponseAt (now (s .entry)) ⌝ }
 {
     Frame::SafeResponse {
         dest: sec_field(s, 0),
@@ -94,7 +93,7 @@ fn safe_response(s: &[u8]) -> Frame
 }
 
 fn plain_sync_response(s: &[u8]) -> Frame
-    ensures { λ r. ⌜ r ≡ PlainSyncResponse (numberAt (now (s .entry)) 0 1) (numberAt (now (s .entry)) 1 1) (numberAt (now (s .entry)) 2 1) (numberAt (now (s .entry)) 3 1) ⌝ }
+    ensures { λ r. ⌜ r ≡ plainSyncResponseAt (now (s .entry)) ⌝ }
 {
     Frame::PlainSyncResponse {
         src: byte_field(s, 0),
@@ -105,7 +104,7 @@ fn plain_sync_response(s: &[u8]) -> Frame
 }
 
 fn plain_response(s: &[u8]) -> Frame
-    ensures { λ r. ⌜ r ≡ PlainResponse (numberAt (now (s .entry)) 0 1) (numberAt (now (s .entry)) 1 1) (numberAt (now (s .entry)) 2 1) (numberAt (now (s .entry)) 3 1) ⌝ }
+    ensures { λ r. ⌜ r ≡ plainResponseAt (now (s .entry)) ⌝ }
 {
     Frame::PlainResponse {
         src: byte_field(s, 0),
@@ -116,7 +115,7 @@ fn plain_response(s: &[u8]) -> Frame
 }
 
 fn tid_assignment(s: &[u8]) -> Frame
-    ensures { λ r. ⌜ r ≡ TidAssignment (numberAt (now (s .entry)) 0 1) (numberAt (now (s .entry)) 1 8) (numberAt (now (s .entry)) 9 1) ⌝ }
+    ensures { λ r. ⌜ r ≡ tidAssignmentAt (now (s .entry)) ⌝ }
 {
     Frame::TidAssignment {
         src: byte_field(s, 0),
@@ -126,7 +125,7 @@ fn tid_assignment(s: &[u8]) -> Frame
 }
 
 fn sid_assignment(s: &[u8]) -> Frame
-    ensures { λ r. ⌜ r ≡ SidAssignment (numberAt (now (s .entry)) 0 4) (numberAt (now (s .entry)) 4 4) (numberAt (now (s .entry)) 8 8) (numberAt (now (s .entry)) 16 4) ⌝ }
+    ensures { λ r. ⌜ r ≡ sidAssignmentAt (now (s .entry)) ⌝ }
 {
     Frame::SidAssignment {
         src: sec_field(s, 0),
@@ -137,7 +136,7 @@ fn sid_assignment(s: &[u8]) -> Frame
 }
 
 fn sid_assignment4(s: &[u8]) -> Frame
-    ensures { λ r. ⌜ r ≡ SidAssignment4 (numberAt (now (s .entry)) 0 4) (numberAt (now (s .entry)) 4 4) (numberAt (now (s .entry)) 8 8) (numberAt (now (s .entry)) 16 4) (numberAt (now (s .entry)) 20 4) (numberAt (now (s .entry)) 24 4) ⌝ }
+    ensures { λ r. ⌜ r ≡ sidAssignment4At (now (s .entry)) ⌝ }
 {
     Frame::SidAssignment4 {
         src: sec_field(s, 0),
@@ -150,7 +149,7 @@ fn sid_assignment4(s: &[u8]) -> Frame
 }
 
 fn acknowledgement(s: &[u8]) -> Frame
-    ensures { λ r. ⌜ r ≡ Acknowledgement (numberAt (now (s .entry)) 0 4) (numberAt (now (s .entry)) 4 4) (numberAt (now (s .entry)) 8 4) (numberAt (now (s .entry)) 12 8) ⌝ }
+    ensures { λ r. ⌜ r ≡ acknowledgementAt (now (s .entry)) ⌝ }
 {
     Frame::Acknowledgement {
         src: sec_field(s, 0),
@@ -161,7 +160,7 @@ fn acknowledgement(s: &[u8]) -> Frame
 }
 
 fn invariants(s: &[u8]) -> Frame
-    ensures { λ r. ⌜ r ≡ Invariants (numberAt (now (s .entry)) 0 4) (numberAt (now (s .entry)) 4 4) (numberAt (now (s .entry)) 8 1) (numberAt (now (s .entry)) 9 1) (numberAt (now (s .entry)) 10 2) (numberAt (now (s .entry)) 12 2) ⌝ }
+    ensures { λ r. ⌜ r ≡ invariantsAt (now (s .entry)) ⌝ }
 {
     Frame::Invariants {
         dest: sec_field(s, 0),

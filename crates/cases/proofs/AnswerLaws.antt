@@ -24,7 +24,7 @@ front out s r out′ h w =
     let e : r ≡ length s = omega (arith, w .0) in
     ap₂ take e (w .1 ∙ sets-front out s h) ∙ take-at s (drop (length s) out) (length s) refl
 
-pub answer-bad : (bs out : List ℕ) (r : ℕ) (out′ : List ℕ) → bs ≡ [] → length out ≡ 2401 → Put out 0 (chars "BAD\n") r out′ → take r out′ ≡ answerText bs
+pub answer-bad : (bs out : List ℕ) (r : ℕ) (out′ : List ℕ) → bs ≡ [] → length out ≡ 4097 → Put out 0 (chars "BAD\n") r out′ → take r out′ ≡ answerText bs
 unfolding answerText
 answer-bad bs out r out′ e l p = rw e (front out (chars "BAD\n") r out′ (omega arith) (put-whole out 0 (chars "BAD\n") (omega arith) r out′ p))
 
@@ -33,12 +33,12 @@ unfolding answerText
 some-text [] h = absurd (omega arith)
 some-text (b ∷ bs) h = refl
 
-pub answer-hex : (bs out : List ℕ) (r : ℕ) (out₁ : List ℕ) (r′ : ℕ) (out′ : List ℕ) → 0 < length bs → length bs ≤ 1200 → length out ≡ 2401
+pub answer-hex : (bs out : List ℕ) (r : ℕ) (out₁ : List ℕ) (r′ : ℕ) (out′ : List ℕ) → 0 < length bs → length bs ≤ 2048 → length out ≡ 4097
     → Put out 0 (hexText bs) r out₁ → Put out₁ r (0x0A ∷ []) r′ out′ → take r′ out′ ≡ answerText bs
 answer-hex bs out r out₁ r′ out′ h k l p q =
-    let n : length (hexText bs) ≤ 2400 = omega (arith, text-length bs) in
+    let n : length (hexText bs) ≤ 4096 = omega (arith, text-length bs) in
     let w = put-whole out 0 (hexText bs) (omega arith) r out₁ p in
-    let m : length out₁ ≡ 2401 = ap length (w .1) ∙ length-sets out 0 (hexText bs) ∙ l in
+    let m : length out₁ ≡ 4097 = ap length (w .1) ∙ length-sets out 0 (hexText bs) ∙ l in
     let v = put-whole out₁ r (0x0A ∷ []) (omega (arith, w .0)) r′ out′ q in
     front out (hexText bs ++ (0x0A ∷ [])) r′ out′ (omega (arith, length-append (hexText bs) (0x0A ∷ []))) (wrote-both out 0 (hexText bs) r out₁ (0x0A ∷ []) r′ out′ w v)
     ∙ some-text bs h

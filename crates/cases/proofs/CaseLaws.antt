@@ -29,7 +29,7 @@ fewer : (s : List ℕ) (o : Option (List ℕ)) → hexPairs s ≡ o → length (
 fewer s none e = omega arith
 fewer s (some bs) e = omega (arith, pairs-length s bs e)
 
-pub case-read : (s buf out : List ℕ) (r x : Hex) → length s ≤ 1200 → length buf ≡ 1200 → r ≡ hexOf (length buf) (hexPairs s) → out ≡ hexLeft (hexPairs s) buf
+pub case-read : (s buf out : List ℕ) (r x : Hex) → length s ≤ 1200 → length buf ≡ 2048 → r ≡ hexOf (length buf) (hexPairs s) → out ≡ hexLeft (hexPairs s) buf
     → r ≡ x → readIn x out ≡ caseOf s
 unfolding caseOf
 case-read s buf out r x h l p q e =

@@ -12,6 +12,13 @@ use text::hex::Hex;
 use text::lines::LF;
 use text::putting;
 
+// Room for the bytes of a case, as many as a `Text` has.
+fn no_bytes() -> [u8; 2048]
+    ensures { λ r. ⌜ 2048 ≡ length r ⌝ }
+{
+    [0; 2048]
+}
+
 // The bytes of a line: none where it is longer than 1,200 characters, or not pairs of hex digits.
 fn case_of(line: &[u8]) -> Text
     ensures { λ r. ⌜ textIn r ≡ caseOf (now (line .entry)) ⌝ }
@@ -19,7 +26,7 @@ fn case_of(line: &[u8]) -> Text
     if 1200 < line.len() {
         return texts::no_text();
     }
-    let mut bytes = text::lines::no_line();
+    let mut bytes = no_bytes();
     match hex::hex_bytes(line, 0, &mut bytes) {
         Hex::Bytes(n) => Text { bytes, len: n },
         Hex::NotHex => texts::no_text(),
@@ -37,16 +44,16 @@ pub fn case_in(line: &[u8], len: usize) -> Text
     case_of(&line[..len])
 }
 
-// An answer as text: room for 1,200 bytes in hex digits, and the LF.
+// An answer as text: room for 2,048 bytes in hex digits, and the LF.
 struct Line {
-    bytes: [u8; 2401],
+    bytes: [u8; 4097],
     len: usize,
 }
 
-fn no_characters() -> [u8; 2401]
-    ensures { λ r. ⌜ 2401 ≡ length r ⌝ }
+fn no_characters() -> [u8; 4097]
+    ensures { λ r. ⌜ 4097 ≡ length r ⌝ }
 {
-    [0; 2401]
+    [0; 4097]
 }
 
 fn answer_text(t: Text) -> Line

@@ -20,11 +20,15 @@ slice-aggregate-lay-into c =
     sym (length-take-le _ _ (omega (arith, c .before .before .if2 .left)))
 
 lay-into-requires : tie.Need-lay-into-requires
-lay-into-requires c κs = omega (arith, length-take (c .before .before .before .before .before .word-field .result) (c .before .before .before .pattern .result), c .before .before .before .before .if2 .left)
+lay-into-requires c κs =
+    let p = c .before .before .before in
+    omega (arith, length-take (p .before .before .word-field .result) (p .pattern .result), p .before .if2 .left)
 
 returns-3 : tie.Need-returns-3
 returns-3 c =
-    lay-laid _ _ (c .before .before .before .before .before .before .before .before .if1 .left) _ (c .before .before .before .before .before .before .before .word-field .ensures) _ _ (c .before .before .before .before .before .before .if2 .left) (c .before .before .before .before .before .pattern .ensures) (c .before .before .before .byte-field .ensures) (c .before .lay-into .ensures)
+    let p = c .before .before .before .before .before in
+    let r = p .before .before .word-field in
+    lay-laid _ _ (p .before .before .before .if1 .left) _ (r .ensures) _ _ (p .before .if2 .left) (p .pattern .ensures) (c .before .before .before .byte-field .ensures) (c .before .lay-into .ensures)
 
 pub lay-spec : {M : Type 1} → statement M
 lay-spec =

@@ -10,7 +10,9 @@ use Rattle.body_cases.proofs.answering.read.Tie as tie
 
 returns : tie.Need-returns
 returns c =
-    read-refused (c .before .before .before .before .before .before .read-body .result) _ (c .before .before .before .before .before .before .read-body .ensures .1) _ (c .before .before .before .before .verdict-number .ensures) _ (c .before .before .before .if1 .taken) (rw (c .add .ensures, c .before .before .no-text .ensures))
+    let n = c .before .before .before .before in
+    let b = n .before .before .read-body in
+    read-refused (b .result) _ (b .ensures .1) _ (n .verdict-number .ensures) _ (c .before .before .before .if1 .taken) (rw (c .add .ensures, c .before .before .no-text .ensures))
 
 array-share-prefix-bytes : tie.Need-array-share-prefix-bytes
 array-share-prefix-bytes c =
@@ -24,9 +26,11 @@ slice-aggregate-add-3 c =
 
 returns-2 : tie.Need-returns-2
 returns-2 c =
-    let b = c .before .before .before .before .before .before .before .before .before .read-body in
+    let k = c .before .before .before .before .before in
+    let n = k .before .before .verdict-number in
+    let b = k .before .before .before .before .read-body in
     let l : length (b .result .bytes) ≡ 272 = search needs in
-    read-valid (b .result) _ (b .ensures .1) _ (c .before .before .before .before .before .before .before .verdict-number .ensures) _ (c .before .before .before .before .before .least .result) l (c .before .before .before .before .before .least .ensures .1 (b .result .bytes) l) (c .before .before .before .before .before .before .if1 .left)
+    read-valid (b .result) _ (b .ensures .1) _ (n .ensures) _ (k .least .result) l (k .least .ensures .1 (b .result .bytes) l) (k .before .if1 .left)
     (rw (c .add3 .ensures, c .before .before .add2 .ensures, c .before .before .before .before .no-text2 .ensures))
 
 pub read-spec : {M : Type 1} → statement M

@@ -11,10 +11,14 @@ use Rattle.case_fields.proofs.fields_out.add_fields.Statement.{statemen
 use Rattle.case_fields.proofs.fields_out.add_fields.Tie as tie
 
 slice-aggregate-add : tie.Need-slice-aggregate-add
-slice-aggregate-add c = sym (length-take-le _ _ (omega (arith, c .before .before .put-fields .ensures .0, c .before .before .put-fields .kept .0, c .before .before .before .before .pre .1)))
+slice-aggregate-add c =
+    let p = c .before .before .put-fields in
+    sym (length-take-le _ _ (omega (arith, p .ensures .0, p .kept .0, c .before .before .before .before .pre .1)))
 
 returns : tie.Need-returns
-returns c = c .add .ensures ∙ ap (put (c .before .before .before .before .before .args .t)) (front _ _ _ _ (c .before .before .before .before .before .pre .1) (c .before .before .before .put-fields .ensures))
+returns c =
+    let s = c .before .before .before .before .before in
+    c .add .ensures ∙ ap (put (s .args .t)) (front _ _ _ _ (s .pre .1) (c .before .before .before .put-fields .ensures))
 
 pub add-fields-spec : {M : Type 1} → statement M
 add-fields-spec =

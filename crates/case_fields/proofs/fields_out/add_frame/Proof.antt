@@ -28,15 +28,15 @@ add-fields-requires-2 c κs =
 
 returns : tie.Need-returns
 returns c =
-    let f = c .before .before .before .before .before .before .before .before .args .f in
-    let r = c .before .before .before .before .before .row-of in
-    let h = c .before .before .before .before .before .before .before .head-of in
+    let u = c .before .before .before in
+    let r = u .before .before .row-of in
+    let h = u .before .before .before .before .head-of in
+    let g = u .before .before .before .before .before .args in
     let t = c .before .tail-of in
-    let e = row-fields f (r .result) (h .result .values) (r .ensures) (ap (λ (x : Fields). x .values) (h .ensures)) in
-    let k : getD (r .result) 0 0 ≡ rowOf f .0 = rw (r .ensures) (rows f .kind) in
-    c .add-fields2 .ensures
-    ∙ ap₂ put (c .before .before .add-fields .ensures ∙ ap₂ put (c .before .before .before .add .ensures ∙ ap (λ (n : ℕ). put (c .before .before .before .before .before .before .before .before .args .t) (n ∷ [])) k) e)
-    (ap laid (tail-held f (t .result) (t .ensures) .0))
+    let e = row-fields (g .f) (r .result) (h .result .values) (r .ensures) (ap (λ (x : Fields). x .values) (h .ensures)) in
+    let k : getD (r .result) 0 0 ≡ rowOf (g .f) .0 = rw (r .ensures) (rows (g .f) .kind) in
+    let v = u .add .ensures ∙ ap (λ (n : ℕ). put (g .t) (n ∷ [])) k in
+    c .add-fields2 .ensures ∙ ap₂ put (c .before .before .add-fields .ensures ∙ ap₂ put v e) (ap laid (tail-held (g .f) (t .result) (t .ensures) .0))
 
 pub add-frame-spec : {M : Type 1} → statement M
 add-frame-spec =

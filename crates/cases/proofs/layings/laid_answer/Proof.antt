@@ -5,7 +5,8 @@ use Rattle.cases.proofs.layings.laid_answer.Tie as tie
 
 returns : tie.Need-returns
 returns c =
-    rw (c .add2 .ensures, c .before .add-word .ensures, c .before .before .sent-len .ensures, c .before .before .before .add .ensures, c .before .before .before .before .before .laid-number .ensures, c .before .before .before .before .before .before .no-text .ensures)
+    let t = c .before .before .before in
+    rw (c .add2 .ensures, c .before .add-word .ensures, c .before .before .sent-len .ensures, t .add .ensures, t .before .before .laid-number .ensures, t .before .before .before .no-text .ensures)
 
 pub laid-answer-spec : {M : Type 1} → statement M
 laid-answer-spec =

@@ -10,8 +10,9 @@ use Rattle.frame_cases.proofs.answering.read.Tie as tie
 
 returns : tie.Need-returns
 returns c =
-    read-refused (c .before .before .before .before .before .before .before .read-frame .result) _ (c .before .before .before .before .before .before .before .read-frame .ensures .1) _ (c .before .before .before .before .before .reading-number .ensures) _ (c .before .before .before .match .keys2)
-    (rw (c .add .ensures, c .before .before .no-text .ensures))
+    let n = c .before .before .before .before .before in
+    let r = n .before .before .read-frame in
+    read-refused (r .result) _ (r .ensures .1) _ (n .reading-number .ensures) _ (c .before .before .before .match .keys2) (rw (c .add .ensures, c .before .before .no-text .ensures))
 
 array-share-prefix-bytes : tie.Need-array-share-prefix-bytes
 array-share-prefix-bytes c =
@@ -25,11 +26,22 @@ slice-aggregate-data-field c =
 
 returns-2 : tie.Need-returns-2
 returns-2 c =
-    let r = c .before .before .before .before .before .before .before .before .before .before .before .before .before .before .before .read-frame in
-    let n = c .before .before .before .before .before .before .before .before .before .before .before .before .least in
+    let u = c .before .before .before .before .before .before .before .before in
+    let k = u .before .before .before .before .least in
+    let n = u .before .before .before .before .before .reading-number in
+    let r = u .before .before .before .before .before .before .before .read-frame in
     let l : length (r .result .bytes) ≡ 272 = search needs in
-    read-valid (r .result) _ (r .ensures .1) _ (c .before .before .before .before .before .before .before .before .before .before .before .before .before .reading-number .ensures) _ (n .result) l (n .ensures .1 (r .result .bytes) l) _ _ (c .before .before .before .before .before .before .before .before .before .before .reading .given .1)
-    (rw (c .add3 .ensures, c .before .data-field .ensures, c .before .before .data-len .ensures, c .before .before .before .data-place .ensures, c .before .before .before .before .before .add-frame .ensures, c .before .before .before .before .before .before .add2 .ensures, c .before .before .before .before .before .before .before .before .no-text2 .ensures))
+    let d = c .before in
+    read-valid (r .result) _ (r .ensures .1) _ (n .ensures) _ (k .result) l (k .ensures .1 (r .result .bytes) l) _ _ (u .before .before .reading .given .1)
+    (rw (
+      c .add3 .ensures,
+      d .data-field .ensures,
+      d .before .data-len .ensures,
+      d .before .before .data-place .ensures,
+      d .before .before .before .before .add-frame .ensures,
+      d .before .before .before .before .before .add2 .ensures,
+      u .no-text2 .ensures,
+    ))
 
 pub read-spec : {M : Type 1} → statement M
 read-spec =

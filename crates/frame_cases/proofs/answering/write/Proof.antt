@@ -14,29 +14,36 @@ returns c = write-none _ _ _ _ (c .before .before .before .word-field .ensures) 
 
 returns-2 : tie.Need-returns-2
 returns-2 c =
-    write-short _ _ _ _ (c .before .before .before .before .before .word-field .ensures) (c .before .before .before .before .byte-field .ensures) (c .before .before .before .if1 .left) (rw (← c .before .before .fields-len .ensures .0) (c .before .if2 .taken)) (c .no-text2 .ensures)
+    let e = c .before .before .before in
+    write-short _ _ _ _ (e .before .before .word-field .ensures) (e .before .byte-field .ensures) (e .if1 .left)
+    (rw (← c .before .before .fields-len .ensures .0) (c .before .if2 .taken)) (c .no-text2 .ensures)
 
 array-borrow-prefix-buf : tie.Need-array-borrow-prefix-buf
 array-borrow-prefix-buf c =
+    let e = c .before .before .before .before .before in
     let l : length (c .pattern .result) ≡ 600 = search needs in
-    let h : c .before .before .before .before .before .before .before .word-field .result ≤ 600 = within (c .before .before .before .before .before .before .byte-field .result) _ (c .before .before .before .before .before .if1 .left) in
+    let h : e .before .before .word-field .result ≤ 600 = within (e .before .byte-field .result) _ (e .if1 .left) in
     omega arith
 
 slice-aggregate-write-into : tie.Need-slice-aggregate-write-into
 slice-aggregate-write-into c =
+    let e = c .before .before .before .before .before .before in
     let l : length (c .before .pattern .result) ≡ 600 = search needs in
-    let h : c .before .before .before .before .before .before .before .before .word-field .result ≤ 600 = within (c .before .before .before .before .before .before .before .byte-field .result) _ (c .before .before .before .before .before .before .if1 .left) in
+    let h : e .before .before .word-field .result ≤ 600 = within (e .before .byte-field .result) _ (e .if1 .left) in
     sym (length-take-le _ _ (omega arith))
 
 write-into-requires : tie.Need-write-into-requires
 write-into-requires c κs =
-    let h : c .before .before .before .before .before .before .before .before .before .before .word-field .result ≤ 600 = within (c .before .before .before .before .before .before .before .before .before .byte-field .result) _ (c .before .before .before .before .before .before .before .before .if1 .left) in
-    omega (arith, length-take (c .before .before .before .before .before .before .before .before .before .before .word-field .result) (c .before .before .before .pattern .result))
+    let e = c .before .before .before .before .before .before .before .before in
+    let h : e .before .before .word-field .result ≤ 600 = within (e .before .byte-field .result) _ (e .if1 .left) in
+    omega (arith, length-take (e .before .before .word-field .result) (c .before .before .before .pattern .result))
 
 returns-3 : tie.Need-returns-3
 returns-3 c =
-    write-written _ _ _ _ (c .before .before .before .before .before .before .before .before .before .before .before .before .word-field .ensures) (c .before .before .before .before .before .before .before .before .before .before .before .byte-field .ensures) (c .before .before .before .before .before .before .before .before .before .before .if1 .left) _ _ _ _ (c .before .before .before .before .before .before .before .before .before .fields-len .ensures .0) (c .before .before .before .before .before .before .before .before .if2 .left)
-    (c .before .before .before .byte-field2 .ensures) (c .before .before .before .before .before .before .frame-at .ensures) (c .before .before .before .before .before .pattern .ensures) (c .before .write-into .ensures)
+    let p = c .before .before .before .before .before in
+    let e = p .before .before .before .before .before in
+    write-written _ _ _ _ (e .before .before .word-field .ensures) (e .before .byte-field .ensures) (e .if1 .left) _ _ _ _ (p .before .before .before .before .fields-len .ensures .0) (p .before .before .before .if2 .left)
+    (c .before .before .before .byte-field2 .ensures) (p .before .frame-at .ensures) (p .pattern .ensures) (c .before .write-into .ensures)
 
 pub write-spec : {M : Type 1} → statement M
 write-spec =
