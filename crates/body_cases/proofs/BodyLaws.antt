@@ -1,4 +1,4 @@
--- Laws of a case of bodies: one for each way of the code. Assumes nothing.
+-- Laws of a case of bodies: one for each way through the code. Assumes nothing.
 use mathlib.Core.Path.{_≡_, refl, sym, ap, ap₂, subst, _∙_}
 use mathlib.Core.List.{List, [], _∷_, append-nil}
 use Prim.Native.Nat.{ℕ, _-_, _≤_, _<_}

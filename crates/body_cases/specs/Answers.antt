@@ -12,7 +12,7 @@ use Rattle.wire.specs.Laying.{lineOf, laidOf}
 use Rattle.cases.specs.Cases.{byOperation}
 use Rattle.cases.specs.Layings.{pattern, laidBytes}
 
--- document 01's number and, beside 0, the address and the application data
+-- document 01's number and, with 0, the address and the application data
 abbrev pub readBytes : Answer (ℕ × List ℕ) → List ℕ
 readBytes (n, none) = n ∷ []
 readBytes (n, some (a, xs)) = n ∷ a ∷ xs

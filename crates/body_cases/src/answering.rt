@@ -15,7 +15,7 @@ use frame_words::texts::Text;
 use wire::body;
 use wire::laying;
 
-// Its number and, beside 0, the address and the application data.
+// The number and, with 0, the address and the application data.
 fn read(s: &[u8]) -> Text
     ensures { λ r. ⌜ Says r (readBytes (answerToBody (now (s .entry)))) ⌝ }
 {

@@ -16,7 +16,7 @@ use Rattle.frame_kinds.specs.declared.kinds.Frame.{Frame}
 use Rattle.frame_kinds.specs.declared.kinds.Frame.the-variants.{Sync, SafeRead, SafeWrite, PlainRead, PlainWrite, SafeResponse, PlainSyncResponse, PlainResponse, TidAssignment, SidAssignment, SidAssignment4, Acknowledgement, Invariants}
 use Rattle.case_fields.specs.Kinds.{rowOf, rowIn, invariantsAt, frameAt, lengths}
 
--- a kind's number stands first; the widths behind it, with the numbers of the head, lay the fields; and they are short
+-- a kind's number comes first; the widths after it, with the numbers of the head, lay down the fields; and they are short
 pub record Rows (f : Frame) : Type 0 where
   pub kind : getD (rowIn f) 0 0 ≡ rowOf f .0
   pub fields : laid (paired (set (rowIn f) 0 0) (heldAs (headOf f) .values) 8) ≡ laid (rowOf f .1)
@@ -52,7 +52,7 @@ tail-short f fs e = rw e (omega (arith, length-laid (tailOf f), rows f .short .1
 pub length-most : (k : ℕ) → k ≤ 0x0C → getD lengths k 0 ≤ 28
 length-most k h = leb-true (getD lengths k 0) 28 (sym (holds (λ n. leb (getD lengths n 0) 28) 0 13 tt k (omega arith) (omega arith)))
 
--- no kind up to the twelfth: the last
+-- none of the first n kinds; past the first twelve it is the last
 abbrev Beyond : ℕ → ℕ → Type 0
 Beyond k zero = Unit
 Beyond k (suc n) = Beyond k n × (k ≡ n → ⊥)

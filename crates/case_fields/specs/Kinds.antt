@@ -1,5 +1,5 @@
--- The kinds of frames by their numbers, and the fields of each as a case gives them: 24 bits in 4 bytes, and no COM where the kind
--- says it. Assumes nothing.
+-- The kinds of frames by their numbers, and the fields of each as a case gives them: 24 bits in 4 bytes, and no COM if the
+-- kind fixes it. Assumes nothing.
 use mathlib.Core.List.{List, [], _∷_}
 use Prim.Native.Nat.{ℕ}
 use lib.Dec.{eqb}
@@ -28,7 +28,7 @@ rowOf (Acknowledgement src dst sec mac) = (0x0B, (4, src) ∷ (4, dst) ∷ (4, s
 rowOf (Invariants dest src cyc seq config logic) =
     (0x0C, (4, dest) ∷ (4, src) ∷ (1, cyc) ∷ (1, seq) ∷ (2, config) ∷ (2, logic) ∷ [])
 
--- and back: the frame of each kind with the fields, STAT among them, that bytes say
+-- and back: the frame of each kind with the fields that the bytes hold, STAT among them
 abbrev pub syncAt : List ℕ → Frame
 syncAt s = Sync (numberAt s 0 4) (numberAt s 4 1)
 
@@ -85,14 +85,14 @@ frameAt kind s =
     (choose (eqb kind 0x0B) (acknowledgementAt s)
     (invariantsAt s))))))))))))
 
--- how many bytes the fields of a kind take, 0 to 0C
+-- how many bytes the fields of a kind have, 00 to 0C
 abbrev pub lengths : List ℕ
 lengths = 5 ∷ 12 ∷ 12 ∷ 3 ∷ 3 ∷ 14 ∷ 4 ∷ 4 ∷ 10 ∷ 20 ∷ 28 ∷ 20 ∷ 14 ∷ []
 
 abbrev pub fieldsLen : ℕ → ℕ
 fieldsLen kind = getD lengths kind 0
 
--- ---- the steps of the code: a kind's number, and the widths of the fields of `headOf` behind TYP
+-- ---- the steps of the code: a kind's number, and the widths of the fields of `headOf` after TYP
 abbrev pub rowIn : Frame → List ℕ
 rowIn (Sync src cyc) = 0x00 ∷ 4 ∷ 1 ∷ 0 ∷ 0 ∷ 0 ∷ 0 ∷ 0 ∷ []
 rowIn (SafeRead dest src cyc seq datl add) = 0x01 ∷ 4 ∷ 4 ∷ 1 ∷ 1 ∷ 0 ∷ 1 ∷ 1 ∷ []

@@ -11,7 +11,7 @@ use frame_kinds::kinds::Frame;
 
 pub const LAST_KIND: u8 = 0x0C;
 
-// How many bytes the fields of a kind take.
+// How many bytes the fields of a kind have; 0 past the last kind.
 pub fn fields_len(kind: u8) -> usize
     ensures { λ r. ⌜ (r ≡ fieldsLen kind) × (r ≤ 28) ⌝ }
 {

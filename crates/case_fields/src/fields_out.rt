@@ -15,7 +15,7 @@ use frame_kinds::putting;
 use frame_words::texts;
 use frame_words::texts::Text;
 
-// A kind's number, and the widths of the fields of `head_of` behind TYP; none for a COM that the kind says.
+// A kind's number, and the widths of the fields of `head_of` after TYP; 0 for a COM that the kind fixes.
 fn row_of(f: Frame) -> [u8; 8]
     ensures { λ r. ⌜ r ≡ rowIn f ⌝ }
 {
@@ -36,7 +36,7 @@ fn row_of(f: Frame) -> [u8; 8]
     }
 }
 
-// Fields, at most 40 bytes of them.
+// Adds fields, at most 40 bytes.
 fn add_fields(t: Text, f: Fields) -> Text
     requires { ⌜ (f .count ≤ 8) × (length (laid (fieldsIn f)) ≤ 40) ⌝ }
     ensures { λ r. ⌜ r ≡ put t (laid (fieldsIn f)) ⌝ }
@@ -46,7 +46,7 @@ fn add_fields(t: Text, f: Fields) -> Text
     texts::add(t, &bytes[..n])
 }
 
-// The kind stands in the place of TYP.
+// Adds a frame: its kind in place of TYP, then its fields.
 pub fn add_frame(t: Text, f: Frame) -> Text
     ensures { λ r. ⌜ r ≡ puts t ((rowOf f .0 ∷ []) ∷ laid (rowOf f .1) ∷ laid (tailOf f) ∷ []) ⌝ }
 {

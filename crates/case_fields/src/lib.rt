@@ -1,3 +1,3 @@
-// The fields of a frame as a case gives them, and as it is answered.
+// The fields of a frame as a case gives them, and as an answer gives them.
 pub mod fields_in;
 pub mod fields_out;

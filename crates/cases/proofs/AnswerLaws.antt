@@ -1,4 +1,4 @@
--- Laws of an answer: by the operation, and its text: BAD, or hex digits and the LF behind them. Assumes nothing.
+-- Laws of an answer: by the operation; and its text, which is BAD or hex digits, with an LF. Assumes nothing.
 use mathlib.Core.Path.{_≡_, refl, ap, ap₂, _∙_}
 use mathlib.Core.List.{List, [], _∷_, _++_, append-nil}
 use Prim.Native.Nat.{ℕ, _≤_, _<_}
@@ -47,7 +47,7 @@ answer-hex bs out r out₁ r′ out′ h k l p q =
 pub says-none : (t : Text) → t ≡ noText → Says t []
 says-none t e = record { is = none-in t e; fits = omega arith }
 
--- pieces, one behind the other
+-- pieces, one after another
 pub says-pieces : (ss : List (List ℕ)) (bs : List ℕ) (t : Text) → t ≡ puts noText ss → joined ss ≡ bs → length bs ≤ 603 → Says t bs
 says-pieces ss bs t e p h = record { is = ap textIn e ∙ pieces-are ss (omega (arith, ap length p)) ∙ p; fits = h }
 

@@ -1,4 +1,4 @@
--- Laws of a line's case: what reading hex digits left, by its answer. Assumes nothing.
+-- Laws of a line's case: what reading hex digits left, by its result. Assumes nothing.
 use mathlib.Core.Path.{_≡_, refl, sym, ap, _∙_}
 use mathlib.Core.List.{List, []}
 use mathlib.Core.Option.{Option, none, some}

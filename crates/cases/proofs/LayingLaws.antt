@@ -1,4 +1,4 @@
--- Laws of a laying down as a case: a turn of the loop that makes the pattern, and the answer's pieces as one. Assumes nothing.
+-- Laws of laying down as a case: a turn of the loop that makes the pattern, and the answer's pieces as one. Assumes nothing.
 use mathlib.Core.Path.{_≡_, refl, sym, ap, ap₂, _∙_}
 use mathlib.Core.List.{List, [], _∷_, _++_, append-nil, append-assoc}
 use Prim.Native.Nat.{ℕ, zero, suc, _+_, _-_, _%_, _≤_, _<_}
@@ -17,7 +17,7 @@ use Rattle.cases.specs.Cases.{Says}
 use Rattle.cases.proofs.AnswerLaws.{says-pieces}
 use Rattle.cases.specs.Layings.{patternFrom, pattern, sentLen, laidBytes}
 
--- what stands, and what is left of the pattern
+-- what is made of the pattern, and what is left of it
 abbrev pub Filled : List ℕ → ℕ → Type 0
 Filled buf i = (take i buf ++ patternFrom i (600 - i) ≡ pattern) × (length buf ≡ 600)
 

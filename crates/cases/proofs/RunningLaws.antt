@@ -38,7 +38,7 @@ text-most [] h = omega arith
 text-most (b ∷ bs) h = omega (arith, text-length (b ∷ bs), length-append (hexText (b ∷ bs)) (0x0A ∷ []))
 
 module _ (f : ℕ → List ℕ → List ℕ) where
-  -- the operation, and the bytes behind it
+  -- the operation, and the bytes after it
   split : (bs : List ℕ) (n : ℕ) → 0 < n → n ≤ length bs → f (getD bs 0 0) (take (n - 1) (drop 1 bs)) ≡ answerTo f (take n bs)
   split bs zero h k = absurd (omega arith)
   split [] (suc n) h k = absurd (omega arith)
@@ -52,7 +52,7 @@ module _ (f : ℕ → List ℕ → List ℕ) where
       let q : textIn t ≡ answerTo f (caseOf cs) = a .is ∙ ap (answerTo f) k in
       (refl, text-most _ (rw k at (a .fits)), rw q at (p .0), rw q at (p .1))
 
-  -- the code holds the case as the first n of some bytes; no answer to none
+  -- the code holds the case as the first n of some bytes; with none there is no answer
   module _ (line : List ℕ) (len : ℕ) (case : Text) (e : textIn case ≡ caseIn line len) (n : ℕ) (p : take n (case .bytes) ≡ textIn case) (t : Text) where
     pub line-none : n ≡ 0 → t ≡ noText → Says t (answerTo f (caseIn line len))
     line-none z q = subst (λ (s : List ℕ). Says t (answerTo f s)) (ap (λ (m : ℕ). take m (case .bytes)) (sym z) ∙ p ∙ e) (says-none t q)

@@ -1,5 +1,5 @@
--- The case programs: a line in hex digits is a case, its first byte is the operation, and the answer is bytes, printed in hex digits.
--- Assumes nothing.
+-- The case programs: a line in hex digits is a case, its first byte is the operation, and the answer is bytes, printed in
+-- hex digits. Assumes nothing.
 use mathlib.Core.Path.{_≡_}
 use mathlib.Core.List.{List, [], _∷_, _++_}
 use mathlib.Core.Option.{Option, none, some}
@@ -18,11 +18,11 @@ abbrev pub bytesIn : Option (List ℕ) → List ℕ
 bytesIn none = []
 bytesIn (some bs) = bs
 
--- the bytes of a line; none where it has over 1,200 characters, or is not pairs of hex digits
+-- the bytes of a line; none if it has over 1,200 characters, or is not pairs of hex digits
 unfoldable pub caseOf : List ℕ → List ℕ
 caseOf l = choose (ltb 1200 (length l)) [] (bytesIn (hexPairs l))
 
--- what a program answers, by its answer to an operation and the bytes behind it; nothing to a case of no bytes
+-- what a program answers: f, of the operation and the bytes after it; no bytes to a case of no bytes
 abbrev pub answerTo : (ℕ → List ℕ → List ℕ) → List ℕ → List ℕ
 answerTo f [] = []
 answerTo f (op ∷ s) = f op s
@@ -31,7 +31,7 @@ answerTo f (op ∷ s) = f op s
 abbrev pub byOperation : ℕ → List ℕ → List ℕ → List ℕ
 byOperation op first second = choose (eqb op 0) first (choose (eqb op 1) second [])
 
--- an answer in hex digits, and BAD where there is none
+-- an answer in hex digits, or BAD if it has no bytes
 unfoldable pub answerText : List ℕ → List ℕ
 answerText [] = chars "BAD\n"
 answerText (b ∷ bs) = hexText (b ∷ bs) ++ (0x0A ∷ [])
@@ -45,7 +45,7 @@ answering f = record { start = tt; first = []; next = λ u l. u; says = λ u l. 
 unfoldable pub caseIn : List ℕ → ℕ → List ℕ
 caseIn line len = choose (ltb (length line) len) [] (caseOf (take len line))
 
--- bytes by value are an answer, and few enough to be printed
+-- the text t holds the answer bs, which is short enough to be printed
 pub record Says (t : Text) (bs : List ℕ) : Type 0 where
   pub is : textIn t ≡ bs
   pub fits : length bs ≤ 603

@@ -1,4 +1,4 @@
--- A laying down as a case: into a buffer of so many bytes with a pattern in it. Assumes nothing.
+-- Laying down as a case: into a buffer with a pattern in it. Assumes nothing.
 use mathlib.Core.List.{List, [], _∷_, _++_}
 use Prim.Native.Nat.{ℕ, zero, suc, _+_, _%_}
 use Rattle.base.specs.Bytes.{bytesOf}
@@ -6,7 +6,7 @@ use Rattle.wire.specs.Laying.{laidAnswer, leftBy}
 use Rattle.wire.specs.declared.laying.Laid.{Laid}
 use Rattle.wire.specs.declared.laying.Laid.the-variants.{Sent, Reserved, Form, Room}
 
--- byte i is i modulo 251: n bytes from the i-th on
+-- byte i is i modulo 251: n bytes, from byte i on
 unfoldable pub patternFrom : ℕ → ℕ → List ℕ
 patternFrom i zero = []
 patternFrom i (suc n) = i % 251 ∷ patternFrom (i + 1) n
@@ -14,7 +14,7 @@ patternFrom i (suc n) = i % 251 ∷ patternFrom (i + 1) n
 unfoldable pub pattern : List ℕ
 pattern = patternFrom 0 600
 
--- the length on the line; none for a refusal
+-- the length on the line; 0 for a refusal
 abbrev pub sentLen : Laid → ℕ
 sentLen (Sent n) = n
 sentLen Reserved = 0

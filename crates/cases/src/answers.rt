@@ -1,4 +1,5 @@
-// A line of a case program: the bytes of its case, and the answer in hex digits. Both are bytes by value; an answer of none is BAD.
+// A line of a case program: the bytes of its case, and the answer in hex digits. Both are bytes by value; an answer of no
+// bytes is printed as BAD.
 ghost use mathlib.Core.Path.{_≡_};
 ghost use lib.ListN.{length, take};
 ghost use Rattle.text.specs.Putting.{putAt, placeAfter};
@@ -19,7 +20,7 @@ fn no_bytes() -> [u8; 2048]
     [0; 2048]
 }
 
-// The bytes of a line: none where it is longer than 1,200 characters, or not pairs of hex digits.
+// The bytes of a line: none if it has over 1,200 characters, or is not pairs of hex digits.
 fn case_of(line: &[u8]) -> Text
     ensures { λ r. ⌜ textIn r ≡ caseOf (now (line .entry)) ⌝ }
 {
@@ -34,7 +35,7 @@ fn case_of(line: &[u8]) -> Text
     }
 }
 
-// A line of `len` characters, of which the buffer keeps the first.
+// The same for a line of `len` characters, of which the buffer keeps the first.
 pub fn case_in(line: &[u8], len: usize) -> Text
     ensures { λ r. ⌜ textIn r ≡ caseIn (now (line .entry)) len ⌝ }
 {
@@ -71,7 +72,7 @@ fn answer_text(t: Text) -> Line
     Line { bytes, len }
 }
 
-// The same put at a place of the output; the next place.
+// Puts the text of an answer at index `at` of the output; returns the next index.
 pub fn put_answer(t: Text, out: &mut [u8], at: usize) -> usize
     ensures { λ r. ⌜ (r ≡ placeAfter (length (now (out .entry))) at (answerText (textIn t))) × (now (out .exit) ≡ putAt (now (out .entry)) at (answerText (textIn t))) ⌝ }
 {

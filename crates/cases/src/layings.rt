@@ -1,4 +1,5 @@
-// A laying down as a case: the buffer before it, and the answer: its number, the length on the line, and the buffer after it.
+// Laying down as a case: the buffer before it; and the answer, which is document 01's number, the length on the line and
+// the buffer after it.
 ghost use mathlib.Core.Path.{_≡_};
 ghost use mathlib.Core.List.{[], _∷_};
 ghost use Rattle.base.specs.Bytes.{bytesOf};
@@ -27,7 +28,7 @@ pub fn pattern() -> [u8; 600]
     buf
 }
 
-// The length on the line; none for a refusal.
+// The length on the line; 0 for a refusal.
 fn sent_len(laid: Laid) -> usize
     ensures { λ r. ⌜ r ≡ sentLen laid ⌝ }
 {
@@ -39,14 +40,14 @@ fn sent_len(laid: Laid) -> usize
     }
 }
 
-// A number in two bytes.
+// Adds a number in two bytes, high byte first.
 pub fn add_word(t: Text, n: usize) -> Text
     ensures { λ r. ⌜ r ≡ put t (bytesOf 2 n) ⌝ }
 {
     texts::add(t, &[(n / 256 % 256) as u8, (n % 256) as u8])
 }
 
-// The answer to a laying down that left such a buffer.
+// The answer, by the result of laying down and the buffer after it.
 pub fn laid_answer(laid: Laid, buf: &[u8]) -> Text
     ensures { λ r. ⌜ r ≡ puts noText ((laidAnswer laid .0 ∷ []) ∷ bytesOf 2 (sentLen laid) ∷ now (buf .entry) ∷ []) ⌝ }
 {

@@ -1,3 +1,3 @@
-// What the case programs share: the bytes of a line's case, the text of an answer, and what a laying down is answered.
+// What the case programs share: the bytes of a line's case, the text of an answer, and the answer to laying down.
 pub mod answers;
 pub mod layings;

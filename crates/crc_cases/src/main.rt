@@ -1,4 +1,4 @@
-// Cases of CRCs: standard input has one a line, standard output its answer.
+// Cases of CRCs: one on each line of standard input, its answer on standard output.
 mod answering;
 mod running;
 

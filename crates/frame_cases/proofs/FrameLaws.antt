@@ -1,4 +1,4 @@
--- Laws of a case of frames: one for each way of the code. Assumes nothing.
+-- Laws of a case of frames: one for each way through the code. Assumes nothing.
 use mathlib.Core.Path.{_≡_, refl, sym, ap, ap₂, _∙_}
 use mathlib.Core.Bool.{true, false, _||_}
 use mathlib.Core.List.{List, [], _∷_, _++_, append-nil}
@@ -48,7 +48,7 @@ refused reading.Kind s k = refl
 refused reading.Form s k = refl
 refused reading.Check s k = refl
 
--- ---- where the data stand
+-- ---- where the data are
 place : (f : Frame) (s : List ℕ) → take (dataLen f) (drop (choose (isSafe f) 12 5) s) ≡ dataIn f s
 unfolding dataPlace laid bytesOf
 place (Sync src cyc) s = refl

@@ -17,7 +17,7 @@ use Rattle.cases.specs.Cases.{byOperation}
 use Rattle.cases.specs.Layings.{pattern, laidBytes}
 use Rattle.case_fields.specs.Kinds.{rowOf, frameAt, fieldsLen}
 
--- document 01's number and, beside 0, the address, the kind, its fields and the data
+-- document 01's number and, with 0, the address, the kind, its fields and the data
 abbrev pub readBytes : Answer (ℕ × Frame × List ℕ) → List ℕ
 readBytes (n, none) = n ∷ []
 readBytes (n, some (a, f, xs)) = n ∷ a ∷ rowOf f .0 ∷ (laid (rowOf f .1) ++ (laid (tailOf f) ++ xs))

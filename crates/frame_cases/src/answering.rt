@@ -23,7 +23,7 @@ use frame_words::texts;
 use frame_words::texts::Text;
 use frame_writing::writing;
 
-// Where the data bytes of a frame stand in its application data.
+// Where the data bytes of a frame begin in its application data.
 fn data_place(f: Frame) -> usize
     ensures { λ r. ⌜ r ≡ choose (isSafe f) 12 5 ⌝ }
 {
@@ -33,7 +33,7 @@ fn data_place(f: Frame) -> usize
     5
 }
 
-// Its number and, beside 0, the address, the kind, its fields and the data.
+// The number and, with 0, the address, the kind, its fields and the data.
 fn read(s: &[u8]) -> Text
     ensures { λ r. ⌜ Says r (readBytes (answerToFrame (now (s .entry)))) ⌝ }
 {

@@ -1,4 +1,4 @@
-// Cases of frames, read and written: standard input has one a line, standard output its answer.
+// Cases of frames, read and written: one on each line of standard input, its answer on standard output.
 mod answering;
 mod running;
 

@@ -1,4 +1,4 @@
--- Laws of the fields of a line: the ways of a word, and a turn of the loop over fields. Assumes nothing.
+-- Laws of the fields of a line: the cases of a word, and a turn of the loop over fields. Assumes nothing.
 use mathlib.Core.Path.{_≡_, refl, ap, _∙_}
 use mathlib.Core.Bool.{Bool, true, false}
 use mathlib.Core.List.{List, [], _∷_, _++_}

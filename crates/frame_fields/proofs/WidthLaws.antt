@@ -28,7 +28,7 @@ pub data Among : List (ℕ × ℕ) → List (ℕ × ℕ) → Type 0 where
   skip : {x : ℕ × ℕ} {xs ys : List (ℕ × ℕ)} → Among xs ys → Among xs (x ∷ ys)
   keep : {x : ℕ × ℕ} {xs ys : List (ℕ × ℕ)} → Among xs ys → Among (x ∷ xs) (x ∷ ys)
 
--- TYP and DATL, and COM where the kind fixes it, are not in a line; a sync has no address there
+-- a line has no TYP, no COM that the kind fixes, and DATL only of a read, as len=; a sync has no address there
 pub widths-tied : (a : ℕ) (f : Frame) → Among (inLine (fieldsOf (kindOf f)) (numbersOf a f)) (inTables a f)
 widths-tied a (Sync src cyc) = skip (skip (keep (keep none)))
 widths-tied a (SafeRead dest src cyc seq datl add) = keep (skip (keep (keep (keep (keep (skip (keep (keep none))))))))

@@ -25,7 +25,7 @@ kindOf (SidAssignment4 src sec mac sid sid2 src2) = kind.Sid4
 kindOf (Acknowledgement src dst sec mac) = kind.Ack
 kindOf (Invariants dest src cyc seq config logic) = kind.Invariants
 
--- the address (but of a sync) and the fields, zeros behind them: eight numbers
+-- the address (except of a sync) and the fields, then zeros: eight numbers
 abbrev pub numbersOf : ℕ → Frame → List ℕ
 numbersOf a (Sync src cyc) = src ∷ cyc ∷ 0 ∷ 0 ∷ 0 ∷ 0 ∷ 0 ∷ 0 ∷ []
 numbersOf a (SafeRead dest src cyc seq datl add) = a ∷ dest ∷ src ∷ cyc ∷ seq ∷ datl ∷ add ∷ 0 ∷ []
@@ -41,7 +41,7 @@ numbersOf a (SidAssignment4 src sec mac sid sid2 src2) = a ∷ src ∷ sec ∷ m
 numbersOf a (Acknowledgement src dst sec mac) = a ∷ src ∷ dst ∷ sec ∷ mac ∷ 0 ∷ 0 ∷ 0 ∷ []
 numbersOf a (Invariants dest src cyc seq config logic) = a ∷ dest ∷ src ∷ cyc ∷ seq ∷ config ∷ logic ∷ 0 ∷ []
 
--- the low bits of a number; the digits of a field say no more
+-- the low bits of a number; the digits of a field never give more
 abbrev pub low8 : ℕ → ℕ
 low8 n = n % 0x100
 
@@ -51,7 +51,7 @@ low16 n = n % 0x10000
 abbrev pub low32 : ℕ → ℕ
 low32 n = n % 0x100000000
 
--- the frame of a kind with such numbers, and DATL where the line has data=
+-- the frame of a kind with these numbers; `datl` is its DATL if the line has data=
 abbrev pub frameOf : Kind → List ℕ → ℕ → Frame
 frameOf kind.Sync vs datl = Sync (low32 (getD vs 0 0)) (low8 (getD vs 1 0))
 frameOf kind.Read vs datl = SafeRead (low32 (getD vs 1 0)) (low32 (getD vs 2 0)) (low8 (getD vs 3 0)) (low8 (getD vs 4 0)) (low8 (getD vs 5 0)) (low8 (getD vs 6 0))
@@ -86,6 +86,6 @@ hasAddress kind.Invariants = true
 abbrev pub addressOf : Kind → List ℕ → ℕ
 addressOf k vs = choose (hasAddress k) (low8 (getD vs 0 0)) 0xFF
 
--- DATL for so many data bytes
+-- DATL for n data bytes; 255 if there are more
 abbrev pub datlOf : ℕ → ℕ
 datlOf n = choose (ltb 255 n) 255 n

@@ -1,4 +1,4 @@
--- The fields of a line, one behind the other: their numbers, or the first that is wrong. Assumes nothing.
+-- The fields of a line, one after another: their numbers, or the first that is wrong. Assumes nothing.
 use mathlib.Core.List.{List, [], _∷_}
 use mathlib.Core.Option.{Option, none, some}
 use Prim.Native.Nat.{ℕ, _+_, _*_}
@@ -14,27 +14,27 @@ use Rattle.frame_fields.specs.declared.rows.Value.{Value}
 use Rattle.frame_fields.specs.declared.rows.Value.the-variants.{Number, Wrong}
 use Rattle.frame_fields.specs.declared.rows.Row.{Row}
 
--- the number of so many hex digits, and the place behind them
+-- the number in the bytes that were read, if they come from `digits` hex digits, and the index after them
 abbrev pub valueIn : ℕ → ℕ → Option (List ℕ) → Value
 valueIn digits next none = Wrong
 valueIn digits next (some bs) =
     choose (ltb 8 (length bs)) Wrong
     (choose (eqb (length bs * 2) digits) (Number (numberAt bs 0 (length bs)) next) Wrong)
 
--- the same of the first n bytes of a buffer
+-- the same for the first n bytes of a buffer
 unfoldable pub numberIn : List ℕ → ℕ → ℕ → ℕ → Value
 numberIn bs n digits next = choose (eqb (n * 2) digits) (Number (numberAt bs 0 n) next) Wrong
 
--- a word that is a name and so many hex digits
+-- a word that is `name` and then `digits` hex digits
 unfoldable pub fieldValue : List ℕ → ℕ → List ℕ → ℕ → Value
 fieldValue name digits word next = choose (starts word name) (valueIn digits next (hexPairs (drop (length name) word))) Wrong
 
--- the word behind one space; at the line's end it is missing
+-- the word after one space; at the line's end it is missing
 unfoldable pub fieldAt : List ℕ → ℕ → List ℕ → ℕ → Value
 fieldAt s at name digits =
     choose (ltb at (length s)) (fieldValue name digits (wordAt s (at + 1)) (wordEnd s (at + 1))) Wrong
 
--- the fields from a place on, of which n are read: up to the end, or to the first that is wrong
+-- the fields from index `at` on, with n read before them: up to the last, or to the first that is wrong
 abbrev pub byValue : Value → (ℕ → ℕ → Row) → Row → Row
 byValue (Number v next) go stop = go v next
 byValue Wrong go stop = stop

@@ -27,7 +27,7 @@ pub fn kind_of(f: Frame) -> Kind
     }
 }
 
-// The address (but of a sync) and the fields, zeros behind them.
+// The address (except of a sync) and the fields, then zeros.
 pub fn numbers_of(addr: u8, f: Frame) -> [u64; 8]
     ensures { λ r. ⌜ r ≡ numbersOf addr f ⌝ }
 {
@@ -185,7 +185,7 @@ fn low32(n: u64) -> u32
     (n % 0x100000000) as u32
 }
 
-// The frame of a kind with such numbers, and DATL where the line has data=.
+// The frame of a kind with these numbers; `datl` is its DATL if the line has data=.
 pub fn frame_of(kind: Kind, v: [u64; 8], datl: u8) -> Frame
     ensures { λ r. ⌜ r ≡ frameOf kind v datl ⌝ }
 {
@@ -278,7 +278,7 @@ pub fn frame_of(kind: Kind, v: [u64; 8], datl: u8) -> Frame
     }
 }
 
-// A sync has no to=.
+// Whether a line of the kind has to=; that of a sync has none.
 fn has_address(kind: Kind) -> bool
     ensures { λ r. ⌜ r ≡ hasAddress kind ⌝ }
 {
@@ -308,7 +308,7 @@ pub fn address_of(kind: Kind, v: [u64; 8]) -> u8
     SYNC_ADDRESS
 }
 
-// DATL for so many data bytes.
+// DATL for `n` data bytes; 255 if there are more.
 pub fn datl_of(n: usize) -> u8
     ensures { λ r. ⌜ r ≡ datlOf n ⌝ }
 {

@@ -1,4 +1,4 @@
-// The fields of a line, one behind the other: their numbers, or the first that is wrong.
+// The fields of a line, one after another: their numbers, or the first that is wrong.
 ghost use mathlib.Core.Path.{_≡_};
 ghost use Prim.Native.Nat.{_*_, _≤_, _<_};
 ghost use lib.ListN.{length, drop, getD, replicate};
@@ -13,13 +13,13 @@ use frame_words::words;
 use text::hex;
 use text::hex::Hex;
 
-// A field's number and the place behind its word; or another word than the wanted one.
+// A field's number and the index after its word; or the word is missing or not the one wanted.
 pub enum Value {
     Number(u64, usize),
     Wrong,
 }
 
-// So many hex digits, from a place of a word to its end.
+// The number in the hex digits from index `from` of a word to its end, if there are `digits` of them.
 fn value_of(word: &[u8], from: usize, digits: u8, next: usize) -> Value
     ensures { λ r. ⌜ r ≡ valueIn digits next (hexPairs (drop from (now (word .entry)))) ⌝ }
 {
@@ -31,7 +31,7 @@ fn value_of(word: &[u8], from: usize, digits: u8, next: usize) -> Value
     }
 }
 
-// The number that n bytes say, where they are as many as wanted.
+// The number in the first `n` bytes, if they come from `digits` hex digits.
 fn number_in(bytes: &[u8], n: usize, digits: u8, next: usize) -> Value
     requires { ⌜ n ≤ 8 ⌝ }
     ensures { λ r. ⌜ r ≡ numberIn (now (bytes .entry)) n digits next ⌝ }
@@ -42,7 +42,7 @@ fn number_in(bytes: &[u8], n: usize, digits: u8, next: usize) -> Value
     Value::Number(fields::field(bytes, 0, n), next)
 }
 
-// A word that is to be a name and so many digits.
+// The number in a word, if the word is `name` and then `digits` hex digits.
 fn field_value(name: &[u8], digits: u8, word: &[u8], next: usize) -> Value
     ensures { λ r. ⌜ r ≡ fieldValue (now (name .entry)) digits (now (word .entry)) next ⌝ }
 {
@@ -52,7 +52,7 @@ fn field_value(name: &[u8], digits: u8, word: &[u8], next: usize) -> Value
     value_of(word, name.len(), digits, next)
 }
 
-// The word behind the space at a place.
+// The same for the word after the space at index `at`.
 fn field_at(line: &[u8], at: usize, name: &[u8], digits: u8) -> Value
     ensures { λ r. ⌜ r ≡ fieldAt (now (line .entry)) at (now (name .entry)) digits ⌝ }
 {
@@ -64,7 +64,7 @@ fn field_at(line: &[u8], at: usize, name: &[u8], digits: u8) -> Value
     field_value(name, digits, &line[from..end], end)
 }
 
-// The same for a field of a form.
+// The same for field `i` of a form.
 fn field_of(line: &[u8], at: usize, form: Form, i: usize) -> Value
     requires { ⌜ i < 8 ⌝ }
     ensures { λ r. ⌜ r ≡ fieldAt (now (line .entry)) at (wordAt (form .names) (i * 8)) (getD (form .digits) i 0) ⌝ }
@@ -76,7 +76,7 @@ fn field_of(line: &[u8], at: usize, form: Form, i: usize) -> Value
     field_at(line, at, &names[from..end], digits[i])
 }
 
-// The numbers of the fields that were read, how many they are, and the place behind them.
+// The numbers of the fields that were read, the index after them, and how many they are.
 pub struct Row {
     pub values: [u64; 8],
     pub at: usize,
@@ -114,14 +114,14 @@ fn read_form(line: &[u8], at: usize, form: Form) -> Row
     }
 }
 
-// The fields of a kind, from the place behind its word on.
+// The fields of a kind; `at` is the index after its word.
 pub fn read_fields(line: &[u8], at: usize, kind: Kind) -> Row
     ensures { λ r. ⌜ r ≡ readFields (fieldsOf kind) (now (line .entry)) at 0 (replicate 8 0) ⌝ }
 {
     read_form(line, at, table::form_of(kind))
 }
 
-// The bytes of data=, put at a buffer's start.
+// Puts the bytes of a word that starts with data= at the buffer's start.
 fn data_word(word: &[u8], out: &mut [u8]) -> Hex
     ensures { λ r. ⌜ (r ≡ hexOf (length (now (out .entry))) (dataWord (now (word .entry)))) × (now (out .exit) ≡ hexLeft (dataWord (now (word .entry))) (now (out .entry))) ⌝ }
 {
@@ -131,7 +131,7 @@ fn data_word(word: &[u8], out: &mut [u8]) -> Hex
     hex::hex_bytes(word, 5, out)
 }
 
-// The same for the word behind the space at a place.
+// The same for the word after the space at index `at`.
 pub fn data_at(line: &[u8], at: usize, out: &mut [u8]) -> Hex
     ensures { λ r. ⌜ (r ≡ hexOf (length (now (out .entry))) (dataAt (now (line .entry)) at)) × (now (out .exit) ≡ hexLeft (dataAt (now (line .entry)) at) (now (out .entry))) ⌝ }
 {

@@ -1,4 +1,4 @@
--- A frame that the writer accepts is printed whole: behind its port, if there is one, its body in hex digits. Assumes nothing.
+-- A frame that the writer accepts is printed whole: its port, if there is one, then its body in hex digits. Assumes nothing.
 use mathlib.Core.Path.{_≡_, refl, sym, ap, _∙_}
 use mathlib.Core.Bool.{true, false}
 use mathlib.Core.List.{List, [], _∷_, _++_}
@@ -22,7 +22,7 @@ use Rattle.frame_words.proofs.TextLaws.{pieces-are}
 use Rattle.frame_text.specs.Built.{frameBuilt}
 use Rattle.frame_text.proofs.BuildingLaws.{built-by}
 
--- what stands before it is a port digit and a space, or nothing
+-- `port` is a port digit and a space, or nothing
 pub built-whole : (port : List ℕ) (a : ℕ) (f : Frame) (xs : List ℕ) → length port ≤ 2 → Sized f → reservedAddr a ≡ false
     → fits a f (length xs) ≡ true
     → textIn (endLine (frameBuilt (put noText port) a f xs)) ≡ port ++ (hexText (bodyOf a (appOf f xs)) ++ (0x0A ∷ []))

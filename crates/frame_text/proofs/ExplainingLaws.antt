@@ -1,5 +1,5 @@
--- Laws of a frame that is explained: a turn of the loop over fields, with data and without, flags, and how many data there are.
--- Assumes nothing.
+-- Laws of a frame that is explained: a turn of the loop over fields, with data and without; flags; and how many data bytes
+-- there are. Assumes nothing.
 use mathlib.Core.Path.{_≡_, ap, _∙_}
 use mathlib.Core.Bool.{true, false, _&&_}
 use mathlib.Core.List.{List, [], _∷_}

@@ -1,4 +1,5 @@
--- No frame is lost with its flags: bytes between 7Eh and 7Eh are no body of a frame, since 7Eh is a reserved address. Assumes nothing.
+-- No frame is lost with its flags: bytes from 7Eh to 7Eh are not a body of a frame, since 7Eh is a reserved address.
+-- Assumes nothing.
 use mathlib.Core.Path.{_≡_, sym, ap, _∙_}
 use mathlib.Core.Bool.{Bool, true, _&&_}
 use mathlib.Core.List.{List}

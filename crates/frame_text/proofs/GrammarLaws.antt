@@ -1,4 +1,5 @@
--- Laws of the grammar's lines: a turn of the loop over fields, with data and without; a line behind others, and the page. Assumes nothing.
+-- Laws of the grammar's lines: a turn of the loop over fields, with data and without; a line after others; and the page.
+-- Assumes nothing.
 use mathlib.Core.Path.{_≡_, ap, _∙_}
 use mathlib.Core.Bool.{true, false}
 use mathlib.Core.List.{List}

@@ -1,5 +1,4 @@
--- A frame built, behind a text that stands already: the body as it stands between the flags, or the writer's refusal, 5 or 8.
--- Assumes nothing.
+-- A frame built, and put after a text: its body without the flags, or the writer's refusal, 5 or 8. Assumes nothing.
 use mathlib.Core.List.{List}
 use Prim.Native.Nat.{ℕ}
 use lib.ListN.{length}
@@ -17,7 +16,7 @@ use Rattle.frame_words.specs.declared.texts.Text.{Text}
 use Rattle.frame_fields.specs.Numbers.{frameOf, addressOf, datlOf}
 use Rattle.frame_text.specs.Said.{refusal, refusedText}
 
--- 600 bytes are room for any frame
+-- 600 bytes are room for any frame, so the last case never comes
 abbrev pub byLaid : Text → Laid → List ℕ → Text
 byLaid t (laid.Sent n) body = put t (hexText body)
 byLaid t laid.Reserved body = refusedText t (laidAnswer laid.Reserved .0) (refusal Reserved)

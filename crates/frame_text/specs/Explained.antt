@@ -1,4 +1,4 @@
--- A body explained, behind a text that stands already: its kind, its fields, its data, or the reader's refusal. Assumes nothing.
+-- A body explained, and put after a text: the frame's kind, fields and data, or the reader's refusal. Assumes nothing.
 use mathlib.Core.Bool.{Bool, _&&_}
 use mathlib.Core.List.{List, [], _∷_}
 use Prim.Native.Nat.{ℕ, _+_, _-_, _/_}

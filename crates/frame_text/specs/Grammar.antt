@@ -17,7 +17,7 @@ unfoldable pub formFields : List Field → Text → Text
 formFields [] t = t
 formFields (f ∷ fs) t = formFields fs (formField t f)
 
--- the form of a kind, put behind a text; and with its LF
+-- the form of a kind, put after a text; and those of several kinds, each with its LF
 unfoldable pub formText : Text → table.Kind → Text
 formText t k =
     choose (hasData k) (put (formFields (fieldsOf k) (put t (kindWord k))) (chars " data=xx..."))
@@ -36,7 +36,7 @@ replies = kind.Response ∷ kind.PlainSyncResponse ∷ kind.PlainResponse ∷ []
 abbrev pub others : List table.Kind
 others = kind.Tid ∷ kind.Sid ∷ kind.Sid4 ∷ kind.Ack ∷ kind.Invariants ∷ []
 
--- a body, a port before either, and the lines that are passed on or left out
+-- a body; a port before a frame or a body; and the lines that are passed on or left out
 abbrev pub otherLines : List (List ℕ)
 otherLines =
     chars "body xx...\n"

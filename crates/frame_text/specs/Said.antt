@@ -1,4 +1,4 @@
--- What is printed of a line that is wrong; and of a refusal, behind a text that stands already. Assumes nothing.
+-- What is printed for a line that is wrong; and for a refusal, which is put after a text. Assumes nothing.
 use mathlib.Core.List.{List, [], _∷_}
 use Prim.Native.Nat.{ℕ}
 use Rattle.text.specs.Decimal.{decimalText}
@@ -16,7 +16,7 @@ badStart number = puts noText (number ∷ chars " BAD: " ∷ [])
 abbrev pub badText : List ℕ → List (List ℕ) → Text
 badText number words = puts (badStart number) words
 
--- a field that is missing or another
+-- a field that is missing or wrong
 abbrev pub wants : List ℕ → ℕ → List (List ℕ)
 wants name digits = name ∷ chars " wants " ∷ decimalText digits ∷ chars " hex digits" ∷ []
 
@@ -32,13 +32,13 @@ refusal Kind = chars "TYP not built"
 refusal Form = chars "length, COM or sync address wrong for the TYP"
 refusal Check = chars "safety CRC"
 
--- document 01's number of an answer, and its words
+-- document 01's number of a refusal, and its words
 abbrev pub refusedStart : Text → ℕ → Text
 refusedStart t n = puts t (chars "refused " ∷ decimalText n ∷ chars ": " ∷ [])
 
 abbrev pub refusedText : Text → ℕ → List ℕ → Text
 refusedText t n words = puts (refusedStart t n) (words ∷ [])
 
--- of the reader of frames
+-- what the reader of frames refuses
 abbrev pub refusedReading : Text → Reading → Text
 refusedReading t r = refusedText t (readingNumber r) (refusal r)

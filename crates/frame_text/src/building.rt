@@ -1,4 +1,4 @@
-// A frame built, behind a text that stands already: the body as it stands between the flags, or the writer's refusal.
+// A frame built, and added to a text: its body without the flags, or the writer's refusal.
 ghost use mathlib.Core.Path.{_≡_};
 ghost use Prim.Native.Nat.{_-_, _≤_};
 ghost use lib.ListN.{length, take, drop};
@@ -15,7 +15,7 @@ use frame_words::texts::Text;
 use frame_writing::writing;
 use wire::laying::Laid;
 
-// What stands between the flags of a line of n bytes.
+// Adds what is between the flags of a line of `n` bytes.
 fn add_body(t: Text, line: &[u8], n: usize) -> Text
     requires { ⌜ (2 ≤ n) × (n ≤ length (now line)) ⌝ }
     ensures { λ r. ⌜ r ≡ put t (hexText (take (n - 2) (drop 1 (now (line .entry))))) ⌝ }

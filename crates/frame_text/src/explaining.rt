@@ -1,4 +1,4 @@
-// A body explained, behind a text that stands already: its kind, its fields and its data, or the reader's refusal.
+// A body explained, and added to a text: the frame's kind, fields and data, or the reader's refusal.
 ghost use mathlib.Core.Path.{_≡_};
 ghost use Prim.Native.Nat.{_*_, _/_, _≤_, _<_};
 ghost use lib.ListN.{length, getD};
@@ -25,7 +25,7 @@ use frame_words::texts::Text;
 
 const FLAG: u8 = 0x7E;
 
-// The bytes of so many hex digits, at most 8.
+// How many bytes `digits` hex digits make, at most 8.
 fn width_of(digits: u8) -> usize
     ensures { λ r. ⌜ (r ≡ width8 (digits / 2)) × (r ≤ 8) ⌝ }
 {
@@ -36,7 +36,7 @@ fn width_of(digits: u8) -> usize
     8
 }
 
-// A number in so many hex digits.
+// Adds a number in `digits` hex digits.
 fn add_number(t: Text, digits: u8, v: u64) -> Text
     ensures { λ r. ⌜ r ≡ put t (hexText (bytesOf (width8 (digits / 2)) v)) ⌝ }
 {
@@ -46,7 +46,7 @@ fn add_number(t: Text, digits: u8, v: u64) -> Text
     texts::add_hex(t, &bytes[..n])
 }
 
-// A field of a form with its number.
+// Adds field `i` of a form, with its number.
 fn add_field(t: Text, form: Form, i: usize, v: u64) -> Text
     requires { ⌜ i < 8 ⌝ }
     ensures { λ r. ⌜ r ≡ putField t (wordAt (form .names) (i * 8), getD (form .digits) i 0) v ⌝ }
@@ -71,7 +71,7 @@ fn add_fields(t: Text, form: Form, v: [u64; 8]) -> Text
     u
 }
 
-// Where the data bytes of a frame stand in its application data.
+// Where the data bytes of a frame begin in its application data.
 fn data_place(f: Frame) -> usize
     ensures { λ r. ⌜ (r ≡ choose (isSafe f) 12 5) × (r ≤ 12) ⌝ }
 {
@@ -105,7 +105,7 @@ fn frame_text(t: Text, addr: u8, f: Frame, bytes: &[u8]) -> Text
     u
 }
 
-// The body that a frame is read from.
+// Adds the frame that is read from a body, or the refusal.
 fn read_text(t: Text, body: &[u8]) -> Text
     ensures { λ r. ⌜ r ≡ readText t (now (body .entry)) ⌝ }
 {
@@ -125,7 +125,7 @@ fn read_text(t: Text, body: &[u8]) -> Text
     }
 }
 
-// Whether flags stand before and behind it.
+// Whether the first byte and the last are flags.
 fn is_flagged(bytes: &[u8]) -> bool
     ensures { λ r. ⌜ r ≡ isFlagged (now (bytes .entry)) ⌝ }
 {
@@ -136,7 +136,7 @@ fn is_flagged(bytes: &[u8]) -> bool
     (bytes[0] == FLAG) & (bytes[n - 1] == FLAG)
 }
 
-// A body, or all that a trace shows of a reply: the flags are left off.
+// Explains a body, or a reply as a trace shows it: then the flags are left off.
 pub fn explained(t: Text, bytes: &[u8]) -> Text
     ensures { λ r. ⌜ r ≡ explainedText t (now (bytes .entry)) ⌝ }
 {

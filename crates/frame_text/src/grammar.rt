@@ -13,7 +13,7 @@ use frame_words::table::Kind;
 use frame_words::texts;
 use frame_words::texts::Text;
 
-// So many x, at most 16.
+// Adds `digits` letters x, at most 16.
 fn add_places(t: Text, digits: u8) -> Text
     ensures { λ r. ⌜ r ≡ put t (take digits (chars "xxxxxxxxxxxxxxxx")) ⌝ }
 {
@@ -49,7 +49,7 @@ fn add_form_fields(t: Text, form: Form) -> Text
     u
 }
 
-// The form of a kind.
+// Adds the form of a kind.
 fn add_form(t: Text, kind: Kind) -> Text
     ensures { λ r. ⌜ r ≡ formText t kind ⌝ }
 {
@@ -80,7 +80,7 @@ fn add_requests(t: Text) -> Text
     add_line(plain_read, Kind::PlainWrite)
 }
 
-// What answers them.
+// The responses.
 fn add_replies(t: Text) -> Text
     ensures { λ r. ⌜ r ≡ formLines replies t ⌝ }
 {
@@ -100,7 +100,7 @@ fn add_others(t: Text) -> Text
     add_line(ack, Kind::Invariants)
 }
 
-// A body, a port before either, and the lines that are passed on or left out.
+// A body; a port before a frame or a body; and the lines that are passed on or left out.
 fn add_other_lines(t: Text) -> Text
     ensures { λ r. ⌜ r ≡ puts t otherLines ⌝ }
 {

@@ -1,4 +1,4 @@
-// What saturn-frame prints of a frame, of a body, of a refusal and of a line that is wrong; and the page of its grammar.
+// What saturn-frame prints for a frame, a body, a refusal and a line that is wrong; and the page of its grammar.
 pub mod building;
 pub mod explaining;
 pub mod grammar;

@@ -1,4 +1,4 @@
-// What is printed of a line that is wrong; and of a refusal, behind a text that stands already.
+// What is printed for a line that is wrong; and for a refusal, which is added to a text.
 ghost use mathlib.Core.Path.{_≡_};
 ghost use mathlib.Core.List.{[], _∷_};
 ghost use Prim.Native.Nat.{_*_, _<_};
@@ -12,7 +12,7 @@ use frame_words::table::Form;
 use frame_words::texts;
 use frame_words::texts::Text;
 
-// The line's number, before the first thing that is wrong.
+// The line's number and BAD; the first thing that is wrong comes after them.
 fn bad_start(number: &[u8]) -> Text
     ensures { λ r. ⌜ r ≡ badStart (now (number .entry)) ⌝ }
 {
@@ -26,7 +26,7 @@ pub fn bad(number: &[u8], words: &[u8]) -> Text
     texts::add(bad_start(number), words)
 }
 
-// A field of a form that is missing or another.
+// Field `i` of a form is missing or wrong.
 pub fn wants_digits(number: &[u8], form: Form, i: usize) -> Text
     requires { ⌜ i < 8 ⌝ }
     ensures { λ r. ⌜ r ≡ badText (now (number .entry)) (wants (wordAt (form .names) (i * 8)) (getD (form .digits) i 0)) ⌝ }
@@ -39,7 +39,7 @@ pub fn wants_digits(number: &[u8], form: Form, i: usize) -> Text
     texts::add(v, b" hex digits")
 }
 
-// Document 01's number.
+// Adds document 01's number of a refusal.
 fn refused_start(t: Text, reading: Reading) -> Text
     ensures { λ r. ⌜ r ≡ refusedStart t (readingNumber reading) ⌝ }
 {
@@ -48,7 +48,7 @@ fn refused_start(t: Text, reading: Reading) -> Text
     texts::add(v, b": ")
 }
 
-// And its words.
+// The same, and its words.
 pub fn refused(t: Text, reading: Reading) -> Text
     ensures { λ r. ⌜ r ≡ refusedReading t reading ⌝ }
 {

@@ -1,4 +1,4 @@
--- Pieces that fit are put one behind the other, and the text is what was put. Assumes nothing.
+-- Pieces that fit are put one after another, and the text is what was put. Assumes nothing.
 use mathlib.Core.Path.{_≡_, refl, sym, ap, _∙_}
 use mathlib.Core.List.{List, [], _∷_, _++_}
 use Prim.Native.Nat.{ℕ, _+_, _≤_}
@@ -51,7 +51,7 @@ puts-is t (s ∷ ss) h =
     let m : put t s .len ≡ t .len + length s = ap (λ (u : Text). u .len) p in
     puts-is (put t s) ss (omega arith) ∙ put-put t s (joined ss) (omega arith)
 
--- so what is printed of pieces that fit is their characters, one behind the other
+-- so what is printed of pieces that fit is their characters, one after another
 pub pieces-are : (ss : List (List ℕ)) → length (joined ss) ≤ room → textIn (puts noText ss) ≡ joined ss
 unfolding noText
 pieces-are ss h =

@@ -9,7 +9,7 @@ use Rattle.frame_words.specs.declared.table.Kind.the-variants.{Sync, Rea
 use Rattle.frame_words.specs.declared.called.Called.{Called}
 use Rattle.frame_words.specs.declared.called.Called.the-variants.{Named, Body, Other}
 
--- the first words, and what they say
+-- the first words, and what each means
 abbrev pub firstWords : List (List ℕ × Called)
 firstWords =
     (kindWord Sync, Named Sync) ∷ (kindWord Read, Named Read) ∷ (kindWord Write, Named Write) ∷ (kindWord PlainRead, Named PlainRead) ∷ (kindWord PlainWrite, Named PlainWrite) ∷ (kindWord Response, Named Response) ∷ (kindWord PlainSyncResponse, Named PlainSyncResponse) ∷ (kindWord PlainResponse, Named PlainResponse) ∷ (kindWord Tid, Named Tid) ∷ (kindWord Sid, Named Sid) ∷ (kindWord Sid4, Named Sid4) ∷ (kindWord Ack, Named Ack) ∷ (kindWord Invariants, Named Invariants) ∷ (chars "body", Body) ∷ []

@@ -1,4 +1,4 @@
--- The lines of a list that are no frames by their fields: those that print nothing, and a script's own. Assumes nothing.
+-- The lines of a list that are not frames by their fields: those that print nothing, and a script's own. Assumes nothing.
 use mathlib.Core.Bool.{Bool, true, false, _&&_, _||_}
 use mathlib.Core.List.{List, []}
 use mathlib.Core.Option.{Option, none, some}
@@ -22,7 +22,7 @@ isTicksOrInputs s = same (wordAt s 0) (chars "T") || same (wordAt s 0) (chars "I
 unfoldable pub hasPort : List ℕ → Bool
 hasPort s = ltb 1 (length s) && (within 0x30 0x39 (getD s 0 0) && eqb (getD s 1 0) 0x20)
 
--- pairs of hex digits from a place on, and nothing else, perhaps none
+-- only pairs of hex digits, perhaps none, from index i on
 abbrev pub arePairs : Option (List ℕ) → Bool
 arePairs none = false
 arePairs (some bs) = true

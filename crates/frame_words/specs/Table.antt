@@ -33,7 +33,7 @@ Field = List ℕ × ℕ
 abbrev field : String → ℕ → Field
 field name digits = (chars name, digits)
 
--- the fields of a kind but for its data
+-- the fields of a kind except its data
 abbrev pub fieldsOf : Kind → List Field
 fieldsOf Sync = field "src=" 6 ∷ field "cyc=" 2 ∷ []
 fieldsOf Read = field "to=" 2 ∷ field "dest=" 6 ∷ field "src=" 6 ∷ field "cyc=" 2 ∷ field "seq=" 2 ∷ field "len=" 2 ∷ field "at=" 2 ∷ []
@@ -49,7 +49,7 @@ fieldsOf Sid4 = field "to=" 2 ∷ field "src=" 6 ∷ field "sec=" 8 ∷ field "m
 fieldsOf Ack = field "to=" 2 ∷ field "src=" 6 ∷ field "dst=" 6 ∷ field "sec=" 8 ∷ field "mac=" 16 ∷ []
 fieldsOf Invariants = field "to=" 2 ∷ field "dest=" 6 ∷ field "src=" 6 ∷ field "cyc=" 2 ∷ field "seq=" 2 ∷ field "config=" 4 ∷ field "logic=" 4 ∷ []
 
--- whether data= is its last
+-- whether the kind has data=, which is always the last field
 abbrev pub hasData : Kind → Bool
 hasData Sync = false
 hasData Read = false
@@ -65,7 +65,7 @@ hasData Sid4 = false
 hasData Ack = false
 hasData Invariants = false
 
--- ---- how the code holds a list of fields: each name stands in 8 columns of a text
+-- ---- how the code holds a list of fields: each name has 8 columns of a text
 abbrev pub fieldsFrom : List ℕ → List ℕ → ℕ → ℕ → List Field
 fieldsFrom names digits i zero = []
 fieldsFrom names digits i (suc n) = (wordAt names (i * 8), getD digits i 0) ∷ fieldsFrom names digits (i + 1) n
@@ -73,7 +73,7 @@ fieldsFrom names digits i (suc n) = (wordAt names (i * 8), getD digits i 0) ∷ 
 abbrev pub fieldsIn : Form → List Field
 fieldsIn f = fieldsFrom (f .names) (f .digits) 0 (f .count)
 
--- and the other way: the word and the fields of a kind as the code holds them, spaces and zeros behind the last
+-- and the other way: the word and the fields of a kind as the code holds them, with spaces and zeros after the last
 abbrev inColumns : List Field → ℕ → List ℕ → List ℕ
 inColumns [] i names = names
 inColumns (f ∷ fs) i names = inColumns fs (i + 1) (sets names (i * 8) (f .0))

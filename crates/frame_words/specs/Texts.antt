@@ -1,4 +1,4 @@
--- A text put together piece by piece: each is added whole, or not at all where it does not fit. Assumes nothing.
+-- A text put together piece by piece: each is added whole, or not at all if it does not fit. Assumes nothing.
 use mathlib.Core.List.{List, [], _∷_}
 use Prim.Native.Nat.{ℕ}
 use lib.ListN.{length, replicate, take}
@@ -23,7 +23,7 @@ endLine t = put t (0x0A ∷ [])
 abbrev pub textIn : Text → List ℕ
 textIn t = take (t .len) (t .bytes)
 
--- pieces, one behind the other
+-- pieces, one after another
 abbrev pub puts : Text → List (List ℕ) → Text
 puts t [] = t
 puts t (s ∷ ss) = puts (put t s) ss

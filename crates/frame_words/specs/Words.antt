@@ -6,12 +6,12 @@ use lib.Dec.{eqb}
 use lib.ListN.{length, drop}
 use Rattle.base.specs.Choice.{choose}
 
--- the characters before the first space, or all
+-- the characters before the first space, or all if there is none
 unfoldable pub wordIn : List ℕ → List ℕ
 wordIn [] = []
 wordIn (c ∷ cs) = choose (eqb c 0x20) [] (c ∷ wordIn cs)
 
--- the word from a place on, and the place behind it
+-- the word that begins at index i, and the index after it
 abbrev pub wordAt : List ℕ → ℕ → List ℕ
 wordAt s i = wordIn (drop i s)
 
@@ -24,6 +24,6 @@ starts s [] = true
 starts [] (p ∷ ps) = false
 starts (c ∷ cs) (p ∷ ps) = eqb c p && starts cs ps
 
--- whether it is that text
+-- whether a text is that other
 unfoldable pub same : List ℕ → List ℕ → Bool
 same s p = starts s p && eqb (length s) (length p)

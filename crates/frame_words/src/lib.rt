@@ -1,4 +1,5 @@
-// The words of a frame's line: its kind's word, its fields by names and hex digits, and text put together for output.
+// The words of a line: a kind's word and its fields by names and hex digits; lines that are not frames; and text put
+// together for output.
 pub mod called;
 pub mod listed;
 pub mod table;

@@ -1,4 +1,4 @@
-// The lines of a list that are no frames by their fields: those that print nothing, and a script's own.
+// The lines of a list that are not frames by their fields: those that print nothing, and a script's own.
 ghost use mathlib.Core.Path.{_≡_};
 ghost use Rattle.frame_words.specs.Listed.{isSilent, isTicksOrInputs, hasPort, pairsFrom, isPortBody};
 use crate::words;
@@ -31,7 +31,7 @@ pub fn has_port(line: &[u8]) -> bool
     ((b'0' <= c) & (c <= b'9')) & (line[1] == words::SPACE)
 }
 
-// Pairs of hex digits from a place on, and nothing else, perhaps none.
+// Only pairs of hex digits, perhaps none, from index `from` on.
 fn pairs_from(line: &[u8], from: usize) -> bool
     ensures { λ r. ⌜ r ≡ pairsFrom (now (line .entry)) from ⌝ }
 {

@@ -18,7 +18,7 @@ pub enum Kind {
     Invariants,
 }
 
-// A kind's word, and its fields but for the data: their names, in eight columns each, how many hex digits each has, and
+// A kind's word, and its fields except the data: their names, in eight columns each; how many hex digits each has; and
 // how many fields there are.
 pub struct Form {
     pub word: [u8; 20],
@@ -112,7 +112,7 @@ pub fn form_of(kind: Kind) -> Form
     }
 }
 
-// Whether data= is its last.
+// Whether the kind has data=, which is always the last field.
 pub fn has_data(kind: Kind) -> bool
     ensures { λ r. ⌜ r ≡ hasData kind ⌝ }
 {

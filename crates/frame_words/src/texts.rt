@@ -1,4 +1,4 @@
-// Text put together for output, by value: each piece is added whole, or not at all where it does not fit.
+// Text put together for output, by value: each piece is added whole, or not at all if it does not fit.
 ghost use mathlib.Core.Path.{_≡_};
 ghost use Rattle.text.specs.Decimal.{decimalText};
 ghost use Rattle.text.specs.Putting.{hexText};
@@ -25,7 +25,7 @@ pub fn no_text() -> Text
     }
 }
 
-// Characters.
+// Adds characters.
 pub fn add(t: Text, s: &[u8]) -> Text
     ensures { λ r. ⌜ r ≡ Texts·put t (now (s .entry)) ⌝ }
 {
@@ -34,7 +34,7 @@ pub fn add(t: Text, s: &[u8]) -> Text
     Text { bytes, len }
 }
 
-// Bytes, in two digits each.
+// Adds bytes, in two digits each.
 pub fn add_hex(t: Text, s: &[u8]) -> Text
     ensures { λ r. ⌜ r ≡ Texts·put t (hexText (now (s .entry))) ⌝ }
 {
@@ -43,7 +43,7 @@ pub fn add_hex(t: Text, s: &[u8]) -> Text
     Text { bytes, len }
 }
 
-// A number in decimal.
+// Adds a number in decimal.
 pub fn add_number(t: Text, n: u64) -> Text
     ensures { λ r. ⌜ r ≡ Texts·put t (decimalText n) ⌝ }
 {
@@ -58,14 +58,14 @@ pub fn add_count(t: Text, n: u8) -> Text
     add_number(t, n as u64)
 }
 
-// The LF behind a line.
+// Adds the LF that ends a line.
 pub fn end_line(t: Text) -> Text
     ensures { λ r. ⌜ r ≡ endLine t ⌝ }
 {
     add(t, &[LF])
 }
 
-// The word that begins at a place of a row of columns.
+// Adds the word that begins at index `at` of a row of columns.
 pub fn add_word(t: Text, columns: &[u8], at: usize) -> Text
     ensures { λ r. ⌜ r ≡ Texts·put t (wordAt (now (columns .entry)) at) ⌝ }
 {

@@ -1,10 +1,10 @@
-// The words of a line: what stands between its spaces.
+// The words of a line: what is between its spaces.
 ghost use mathlib.Core.Path.{_≡_};
 ghost use Rattle.frame_words.specs.Words.{wordEnd, starts, same};
 
 pub const SPACE: u8 = 0x20;
 
-// The place behind the word that begins at a place: of the next space, or the line's end.
+// The index after the word that begins at index `from`: that of the next space, or the line's end.
 pub fn word_end(line: &[u8], from: usize) -> usize
     ensures { λ r. ⌜ r ≡ wordEnd (now (line .entry)) from ⌝ }
 {
@@ -35,7 +35,7 @@ pub fn starts_with(word: &[u8], text: &[u8]) -> bool
     true
 }
 
-// Whether it is that text.
+// Whether a word is that text.
 pub fn is_word(word: &[u8], text: &[u8]) -> bool
     ensures { λ r. ⌜ r ≡ same (now (word .entry)) (now (text .entry)) ⌝ }
 {

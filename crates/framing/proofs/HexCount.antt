@@ -20,7 +20,7 @@ use Rattle.frame_words.specs.Words.{wordAt, starts}
 use Rattle.frame_fields.specs.Rows.{dataWord, dataAt}
 use Rattle.frame_words.proofs.WordLaws.{word-shorter}
 
--- at most so many characters, two for each byte
+-- two characters for each byte, at most n
 abbrev pub Half : ℕ → Option (List ℕ) → Type 0
 Half n none = Unit
 Half n (some bs) = length bs * 2 ≤ n
@@ -73,7 +73,7 @@ bytes-are (some bs) buf out n l e p = by (ltb 600 (length bs)) e (p ∙ rw l)
         let q : n ≡ length bs = cc in
         rw (p, q) (ap some (sym (take-at bs (drop (length bs) buf) (length bs) refl)))
 
--- data were read only behind a space
+-- data are read only after a space
 pub data-inside : (s : List ℕ) (at : ℕ) (xs : List ℕ) → dataAt s at ≡ some xs → at < length s
 unfolding dataAt
 data-inside s at xs e = by (ltb at (length s)) refl e

@@ -1,4 +1,4 @@
--- Laws of what a line asks for, one for each way. Assumes nothing.
+-- Laws of what a line asks for, one for each case. Assumes nothing.
 use mathlib.Core.Path.{_≡_, refl, sym, ap, _∙_}
 use mathlib.Core.Bool.{true, false}
 use mathlib.Core.List.{List, [], _∷_}

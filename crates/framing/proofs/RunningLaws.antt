@@ -1,4 +1,5 @@
--- Laws of a line's answer, as the program puts it together and as the definition has it, and of the text at the end. Assumes nothing.
+-- Laws of a line's answer, as the program puts it together and as the definition has it; and of the text at the end.
+-- Assumes nothing.
 use mathlib.Core.Path.{_≡_, refl, sym, ap, ap₂, _∙_}
 use mathlib.Core.Bool.{Bool, true, false, _||_}
 use mathlib.Core.List.{List, []}
@@ -24,7 +25,7 @@ use Rattle.frame_text.specs.Grammar.{grammarText}
 use Rattle.framing.proofs.AnswerLaws.{answer-over}
 use Rattle.framing.specs.Running.{numberOf, numberText, answeredIn, endText, answering}
 
--- the line that a buffer holds; one that is too long is answered as one of which nothing is kept
+-- the answer by what the buffer holds is the answer to the line itself, also if the line is too long
 held-answered : (n : ℕ) (line : List ℕ) (len : ℕ) (cs : List ℕ) → length line ≡ 1200 → Holds line len cs
     → answeredIn n line len ≡ answerOf (numberText n) cs
 unfolding answeredIn
@@ -52,7 +53,7 @@ line-answered n line len out to t n′ out′ to′ e q w a cs h =
     let m : length (textIn (answerOf (numberText n) cs)) ≤ room = rw k at (a .0) in
     (q, omega arith, rw k at (a .1), rw k at (a .2))
 
--- ---- the end: the grammar, where there was no line
+-- ---- the end: the grammar, if there was no line
 pub end-first : (n : ℕ) → n ≡ 0 → grammarText ≡ endText n
 unfolding endText
 end-first n e = sym (choose-true _ _ (ap (λ (m : ℕ). eqb m 0) e))
@@ -78,7 +79,7 @@ end-put n buffer out c buffer′ line′ r t out′ to′ x g w e q a =
 pub not-both : {A : Type 0} (b : Bool) → b ≡ true → b ≡ false → A
 not-both b e f = absurd (let z : _≡_ {A = ℕ} 0 1 = cc in omega arith)
 
--- each line leaves one less that can be counted
+-- after each line there is one fewer that can be counted
 pub fewer-left : (n m : ℕ) → n < 0xFFFFFFFFFFFFFFFF → m ≡ numberOf n → 0xFFFFFFFFFFFFFFFF - m < 0xFFFFFFFFFFFFFFFF - n
 fewer-left n m h e = omega arith
 

@@ -1,4 +1,4 @@
--- What is printed of a line: docs/DECISIONS.md, 'The frame program', rule by rule. Assumes nothing.
+-- What is printed for a line: docs/DECISIONS.md, 'The frame program', rule by rule. Assumes nothing.
 use mathlib.Core.List.{List, [], _∷_}
 use Prim.Native.Nat.{ℕ}
 use lib.Dec.{ltb}
@@ -13,7 +13,7 @@ use Rattle.frame_text.specs.Built.{builtText}
 use Rattle.frame_text.specs.Explained.{explainedText}
 use Rattle.framing.specs.Outcome.{Outcome, build, explain, complain, outcomeOf}
 
--- what is built or explained stands behind a start; a complaint stands alone, with the line's number
+-- what is built or explained is put after a start; a complaint is printed without it, with the line's number
 abbrev pub said : List ℕ → Text → Outcome → Text
 said number start (build k vs xs) = builtText start k vs xs
 said number start (explain bs) = explainedText start bs
@@ -28,7 +28,7 @@ overText number = endLine (badText number (chars "over 1,200 characters" ∷ [])
 abbrev pub passedText : List ℕ → Text
 passedText s = endLine (put noText s)
 
--- a frame or a body, behind a port digit and its space, and alone
+-- a frame or a body, after a port digit and its space; and without them
 abbrev pub portText : List ℕ → List ℕ → Text
 portText number s = endLine (said number (put noText (take 2 s)) (outcomeOf (drop 2 s)))
 

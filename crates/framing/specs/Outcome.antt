@@ -1,4 +1,5 @@
--- What a line asks for, behind its port if it has one: a frame to build, a body to explain, or the first thing that is wrong. Assumes nothing.
+-- What a line asks for, after its port if it has one: a frame to build, a body to explain, or the first thing that is
+-- wrong. Assumes nothing.
 use mathlib.Core.List.{List, [], _∷_}
 use mathlib.Core.Option.{Option, none, some}
 use Prim.Native.Nat.{ℕ, zero, suc, _+_}
@@ -23,11 +24,11 @@ pub data Outcome : Type 0 where
   explain : List ℕ → Outcome
   complain : List (List ℕ) → Outcome
 
--- nothing stands behind the last field
+-- nothing may follow the last field
 unfoldable pub atEnd : List ℕ → ℕ → Kind → List ℕ → List ℕ → Outcome
 atEnd s at k vs xs = choose (ltb at (length s)) (complain (chars "more behind the last field" ∷ [])) (build k vs xs)
 
--- the data, where the kind has them
+-- the data, if the kind has them
 abbrev pub byData : Option (List ℕ) → List ℕ → ℕ → Kind → List ℕ → Outcome
 byData none s at k vs = complain (chars "data= wants pairs of hex digits" ∷ [])
 byData (some xs) s at k vs = atEnd s (wordEnd s (at + 1)) k vs xs
@@ -35,19 +36,19 @@ byData (some xs) s at k vs = atEnd s (wordEnd s (at + 1)) k vs xs
 unfoldable pub withData : List ℕ → ℕ → Kind → List ℕ → Outcome
 withData s at k vs = byData (dataAt s at) s at k vs
 
--- the n-th field of a kind is missing or another
+-- the complaint about the n-th field of a kind, which is missing or wrong
 abbrev pub wantsField : List Field → ℕ → List (List ℕ)
 wantsField [] n = []
 wantsField (f ∷ fs) zero = wants (f .0) (f .1)
 wantsField (f ∷ fs) (suc n) = wantsField fs n
 
--- a row of fields, read up to its end or to the first that is wrong
+-- a row of fields, read up to its end or to the first field that is wrong
 unfoldable pub byRow : List ℕ → Kind → Row → Outcome
 byRow s k r =
     choose (ltb (r .count) (length (fieldsOf k))) (complain (wantsField (fieldsOf k) (r .count)))
     (choose (hasData k) (withData s (r .at) k (r .values)) (atEnd s (r .at) k (r .values) []))
 
--- the fields of a kind behind its word
+-- the fields of a kind, after its word
 unfoldable pub byKind : List ℕ → ℕ → Kind → Outcome
 byKind s at k = byRow s k (readFields (fieldsOf k) s at 0 (replicate 8 0))
 

@@ -1,4 +1,4 @@
--- The program that answers a line each, numbered from 1. Assumes nothing.
+-- The program: an answer to each line, and lines are numbered from 1. Assumes nothing.
 use mathlib.Core.List.{List, []}
 use Prim.Native.Nat.{ℕ, _+_, _%_, _^_}
 use lib.Dec.{eqb, ltb}
@@ -11,20 +11,20 @@ use Rattle.frame_words.specs.declared.texts.Text.{Text}
 use Rattle.framing.specs.Answers.{answerOf, overText}
 use Rattle.frame_text.specs.Grammar.{grammarText}
 
--- the number of the line behind so many, in 64 bits, and as text
+-- the number of the line after n others, in 64 bits; and as text
 abbrev pub numberOf : ℕ → ℕ
 numberOf n = (n + 1) % 2 ^ 64
 
 unfoldable pub numberText : ℕ → List ℕ
 numberText n = textIn (put noText (decimalText (numberOf n)))
 
--- at the end, behind so many lines: the grammar where there were none
+-- at the end, after n lines: the grammar, if there were none
 unfoldable pub endText : ℕ → Text
 endText n = choose (eqb n 0) grammarText noText
 
 abbrev pub answering : Program ℕ
 answering = record { start = 0; first = []; next = λ n l. numberOf n; says = λ n l. textIn (answerOf (numberText n) l); ends = λ n. textIn (endText n) }
 
--- a line of len characters, of which a buffer keeps the first
+-- the answer to a line of len characters, of which a buffer keeps the first
 unfoldable pub answeredIn : ℕ → List ℕ → ℕ → Text
 answeredIn n line len = choose (ltb (length line) len) (overText (numberText n)) (answerOf (numberText n) (take len line))

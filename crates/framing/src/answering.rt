@@ -13,21 +13,21 @@ use frame_words::texts::Text;
 
 pub const MOST: usize = 1200;
 
-// A line that is too long, of which nothing need be kept.
+// The answer to a line that is too long: only its number is needed.
 pub fn over(number: &[u8]) -> Text
     ensures { λ r. ⌜ r ≡ overText (now (number .entry)) ⌝ }
 {
     texts::end_line(bad(number, b"over 1,200 characters"))
 }
 
-// A line that is printed unchanged.
+// The answer that is the line itself, unchanged.
 fn passed(line: &[u8]) -> Text
     ensures { λ r. ⌜ r ≡ passedText (now (line .entry)) ⌝ }
 {
     texts::end_line(texts::add(texts::no_text(), line))
 }
 
-// What stands behind a port digit and its space, answered behind them.
+// The answer to what follows a port digit and its space: printed after them, but a BAD line without them.
 fn behind_port(number: &[u8], line: &[u8]) -> Text
     requires { ⌜ (length (now line) ≤ 1200) × (hasPort (now line) ≡ true) ⌝ }
     ensures { λ r. ⌜ r ≡ portText (now (number .entry)) (now (line .entry)) ⌝ }
@@ -36,7 +36,7 @@ fn behind_port(number: &[u8], line: &[u8]) -> Text
     texts::end_line(asking::asked(number, port, &line[2..]))
 }
 
-// A line and its number, written out.
+// The answer to a line; `number` is its number, in decimal digits.
 pub fn answer(number: &[u8], line: &[u8]) -> Text
     ensures { λ r. ⌜ r ≡ answerOf (now (number .entry)) (now (line .entry)) ⌝ }
 {

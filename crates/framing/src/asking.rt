@@ -1,4 +1,4 @@
-// A frame by its fields, or a body: what is built or explained behind a start, or the first thing that is wrong.
+// A frame by its fields, or a body: what is built or explained is added to `start`; or the first thing that is wrong.
 ghost use mathlib.Core.Path.{_≡_};
 ghost use Prim.Native.Nat.{_≤_};
 ghost use lib.ListN.{length};
@@ -18,7 +18,7 @@ use frame_words::words;
 use text::hex;
 use text::hex::Hex;
 
-// Nothing may stand behind the last field.
+// The frame, if nothing follows its last field.
 fn at_end(
     number: &[u8],
     start: Text,
@@ -36,7 +36,7 @@ fn at_end(
     building::built(start, kind, v, data)
 }
 
-// The data of a kind that has them. They are at most half as many as the characters.
+// The data of a kind that has them: at most half as many bytes as the line has characters.
 fn with_data(number: &[u8], start: Text, line: &[u8], at: usize, kind: Kind, v: [u64; 8]) -> Text
     requires { ⌜ length (now line) ≤ 1200 ⌝ }
     ensures { λ r. ⌜ r ≡ Answers·said (now (number .entry)) start (withData (now (line .entry)) at kind v) ⌝ }
@@ -52,7 +52,7 @@ fn with_data(number: &[u8], start: Text, line: &[u8], at: usize, kind: Kind, v: 
     }
 }
 
-// The fields of a kind behind its word.
+// The fields of a kind, after its word.
 fn by_kind(number: &[u8], start: Text, line: &[u8], at: usize, kind: Kind) -> Text
     requires { ⌜ length (now line) ≤ 1200 ⌝ }
     ensures { λ r. ⌜ r ≡ Answers·said (now (number .entry)) start (byKind (now (line .entry)) at kind) ⌝ }
@@ -72,7 +72,7 @@ fn by_kind(number: &[u8], start: Text, line: &[u8], at: usize, kind: Kind) -> Te
     at_end(number, start, line, to, kind, v, b"")
 }
 
-// A space and pairs of hex digits behind `body`.
+// A space and pairs of hex digits, after `body`.
 fn by_body(number: &[u8], start: Text, line: &[u8], at: usize) -> Text
     requires { ⌜ length (now line) ≤ 1200 ⌝ }
     ensures { λ r. ⌜ r ≡ Answers·said (now (number .entry)) start (byBody (now (line .entry)) at) ⌝ }
@@ -88,7 +88,7 @@ fn by_body(number: &[u8], start: Text, line: &[u8], at: usize) -> Text
     }
 }
 
-// By the first word.
+// What a line asks for, by its first word.
 pub fn asked(number: &[u8], start: Text, line: &[u8]) -> Text
     requires { ⌜ length (now line) ≤ 1200 ⌝ }
     ensures { λ r. ⌜ r ≡ Answers·said (now (number .entry)) start (outcomeOf (now (line .entry))) ⌝ }

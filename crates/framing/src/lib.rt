@@ -1,4 +1,4 @@
-// Lists answered line by line: frames built, bodies explained, a script's own lines passed on. The program saturn-frame.
+// Lists answered line by line, for saturn-frame: frames are built, bodies explained, a script's own lines passed on.
 mod answering;
 mod asking;
 mod running;

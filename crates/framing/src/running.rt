@@ -19,7 +19,7 @@ use frame_text::grammar;
 use frame_words::texts;
 use frame_words::texts::Text;
 
-// A line of `len` characters, or one that is longer than there is room for.
+// The answer to a line of `len` characters, of which the buffer keeps the first.
 fn answer_to(number: &[u8], line: &[u8], len: usize) -> Text
     ensures { λ r. ⌜ r ≡ choose (ltb (length (now (line .entry))) len) (overText (now (number .entry))) (answerOf (now (number .entry)) (take len (now (line .entry)))) ⌝ }
 {
@@ -35,7 +35,7 @@ fn next_number(before: u64) -> u64
     std::num::wrapping_add_u64(before, 1)
 }
 
-// The answer to the line behind `before` lines.
+// The same for the line that comes after `before` others.
 fn answer_in(before: u64, line: &[u8], len: usize) -> Text
     ensures { λ r. ⌜ r ≡ answeredIn before (now (line .entry)) len ⌝ }
 {
@@ -45,7 +45,7 @@ fn answer_in(before: u64, line: &[u8], len: usize) -> Text
     answer_to(&digits[..k], line, len)
 }
 
-// The text at the end of the input: the grammar, where no line was answered.
+// The text at the end of the input: the grammar, if there was no line.
 fn end_text(lines: u64) -> Text
     ensures { λ r. ⌜ r ≡ endText lines ⌝ }
 {
@@ -55,7 +55,7 @@ fn end_text(lines: u64) -> Text
     texts::no_text()
 }
 
-// A text put at a place of the output.
+// Puts a text at index `at` of the output; returns the next index.
 fn put(t: Text, out: &mut [u8], at: usize) -> usize
     ensures { λ r. ⌜ (length (textIn t) ≤ room) × (r ≡ placeAfter (length (now (out .entry))) at (textIn t)) × (now (out .exit) ≡ putAt (now (out .entry)) at (textIn t)) ⌝ }
 {
@@ -63,8 +63,8 @@ fn put(t: Text, out: &mut [u8], at: usize) -> usize
     blocks::put_first(out, at, &bytes, t.len)
 }
 
-// The answers to all lines, and the text at the end: they are handed on where the output is full, and the last stand there. No run has
-// as many lines as the count can hold.
+// The answers to all lines, and the text at the end. They are handed on when the output is full; the last of them are
+// still in the output on return. No run has as many lines as the count can hold.
 fn answer_all(block: &mut [u8; 65536], line: &mut [u8; 1200], out: &mut [u8; 16384]) -> Cursor
     ensures { λ r. ⌜ (r .ended ≡ true → Whole Running·answering (now (block .exit)) (now (out .exit)) r) ⌝ }
 {

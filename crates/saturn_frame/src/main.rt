@@ -1,4 +1,4 @@
-// Lists of frames: a line each on standard input, its answer on standard output.
+// The program saturn-frame: a list on standard input, the answer to each line on standard output.
 fn main() {
     framing::run();
 }

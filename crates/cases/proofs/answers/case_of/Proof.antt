@@ -1,4 +1,4 @@
--- `answers::case_of` meets its contract, by what reading hex digits gave. Assumes nothing.
+-- `answers::case_of` meets its contract, by the result of reading hex digits. Assumes nothing.
 use mathlib.Core.Path.{_≡_, _∙_}
 use borrow.Author.Needs.{needs}
 use lib.ListN.{length}

@@ -1,4 +1,4 @@
--- `layings::pattern` meets its contract: what stands of the pattern and what is left are the whole. Assumes nothing.
+-- `layings::pattern` meets its contract: what is made of the pattern and what is left of it are the whole. Assumes nothing.
 use mathlib.Core.Path.{refl, _∙_}
 use Prim.Native.Nat.{_-_}
 use borrow.Author.Needs.{needs}

@@ -9,7 +9,7 @@ use borrow.Author.Needs.{needs}
 use Rattle.frame_text.proofs.explaining.explained.Statement.{statement}
 use Rattle.frame_text.proofs.explaining.explained.Tie as tie
 
--- two bytes or more stand where the flags are
+-- with flags there are two bytes or more
 long : (c : tie.Then1) → 2 ≤ length (c .before .before .before .args .bytes .now)
 long c = flagged-long (c .before .before .before .args .bytes .now) (sym (c .before .is-flagged .ensures) ∙ c .if1 .taken)
 

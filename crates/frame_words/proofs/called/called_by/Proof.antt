@@ -1,4 +1,4 @@
--- `called::called_by` meets its contract: past each test the words behind it decide. Assumes nothing.
+-- `called::called_by` meets its contract: when a test fails, the words after it decide. Assumes nothing.
 use mathlib.Core.Path.{_≡_, sym, _∙_}
 use lib.ListN.{drop}
 use Rattle.base.proofs.Choosing.{choose-true, choose-false}

@@ -1,4 +1,4 @@
--- `words::starts_with` meets its contract: what is behind the characters that agree decides. Assumes nothing.
+-- `words::starts_with` meets its contract: what comes after the characters that agree decides. Assumes nothing.
 use borrow.Author.Needs.{needs}
 use mathlib.Core.Path.{_≡_, refl, sym, _∙_}
 use Prim.Native.Nat.{_-_}

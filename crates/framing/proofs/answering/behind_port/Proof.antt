@@ -1,4 +1,4 @@
--- `answering::behind_port` meets its contract: two characters stand before what is asked. Assumes nothing.
+-- `answering::behind_port` meets its contract: two characters come before what is asked. Assumes nothing.
 use mathlib.Core.Path.{_≡_, sym, _∙_}
 use Prim.Native.Nat.{_-_, _≤_}
 use native.Mathlib.Omega.{arith}
