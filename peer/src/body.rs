@@ -42,8 +42,8 @@ pub fn read(received: &[u8]) -> Result<Body, Refusal> {
     })
 }
 
-/// Lays flag, body and flag down at the start of the buffer and tells their length.
-/// A refusal, and the buffer behind the closing flag, change no byte.
+/// Lays flag, body and flag down at the start of the buffer and returns their length.
+/// No byte after the closing flag changes, and none at all for a refusal.
 pub fn lay(address: u8, application: &[u8], buffer: &mut [u8]) -> Result<usize, Refusal> {
     if reserved(address) {
         return Err(Refusal::ReservedAddress);
@@ -62,7 +62,7 @@ pub fn lay(address: u8, application: &[u8], buffer: &mut [u8]) -> Result<usize, 
     Ok(length)
 }
 
-/// The body as it stands between the flags, whatever its address and length.
+/// The body without its flags, whatever its address and length.
 pub fn enclose(address: u8, application: &[u8]) -> Vec<u8> {
     enclose_with(address, application, fcs_of(address, application))
 }

@@ -1,4 +1,4 @@
-//! Numbers in a row of bytes, high byte first: taken one behind the other, and put so.
+//! Numbers in a row of bytes, high byte first: read one after another, and put in the same way.
 
 pub struct Reader<'a> {
     left: &'a [u8],

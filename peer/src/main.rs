@@ -3,11 +3,11 @@
 //! - `peer answer crc|body|frame`: cases on standard input, answers on standard output
 //! - `peer cases crc|body|frame SEED COUNT`: seeded cases
 //! - `peer script`, `peer trace`: a script on standard input, what came of it on standard output
-//! - `peer scripts SEED COUNT`: a seeded script of so many lines
+//! - `peer scripts SEED COUNT`: a seeded script of COUNT lines
 //! - `peer frame`: a list on standard input (frames by their fields, bodies, lines of a script, comments); bodies, frames
 //!   and the lines of the script on standard output
 //! - `peer frames SEED COUNT`: seeded lines for it
-//! - `peer census`: a script on standard input, how often what came up on standard output
+//! - `peer census`: a script on standard input, what it brings up and how often on standard output
 //! - `peer list-census`: the same for a list
 //! - `peer fuzz COUNT SEED PROGRAM...`: fresh scripts through `trace` and another trace program
 //! - `peer test`: self checks
@@ -51,7 +51,7 @@ fn main() -> ExitCode {
     };
     match outcome {
         Some(Ok(code)) => code,
-        // Nobody reads on.
+        // Nobody reads any more.
         Some(Err(error)) if error.kind() == ErrorKind::BrokenPipe => ExitCode::SUCCESS,
         Some(Err(error)) => {
             eprintln!("peer: {error}");

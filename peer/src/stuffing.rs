@@ -17,7 +17,7 @@ pub fn stuff(plain: &[u8]) -> Vec<u8> {
     line
 }
 
-/// `None` for a flag, or for an escape without one of its two codes behind it.
+/// `None` for a flag, or for an escape without one of its two codes after it.
 pub fn unstuff(line: &[u8]) -> Option<Vec<u8>> {
     let mut plain = Vec::new();
     let mut bytes = line.iter();

@@ -5,7 +5,7 @@ use crate::frame::{Frame, Head, SidAssignment, Span};
 
 pub const KINDS: u8 = 0x0D;
 
-/// `None` for a kind that is not there and for too few bytes.
+/// `None` for a kind that does not exist and for too few bytes.
 pub fn frame_from(kind: u8, fields: &mut Reader) -> Option<Frame> {
     Some(match kind {
         0x00 => Frame::Sync {

@@ -37,7 +37,7 @@ pub fn answer(program: Program, input: &[u8]) -> String {
         .collect()
 }
 
-/// Lines end with LF alone; a last one without it is a line, nothing follows a final one.
+/// Lines end with LF alone. A last line without LF is a line; no line follows a final LF.
 fn lines(input: &[u8]) -> impl Iterator<Item = &[u8]> {
     input
         .split_inclusive(|&byte| byte == b'\n')
@@ -61,7 +61,7 @@ fn case_of(line: &[u8]) -> Option<Vec<u8>> {
     hex::decode(line)
 }
 
-/// A buffer to write into: byte i is i modulo 251. `None` if it were larger than allowed.
+/// A buffer to write into: byte i is i modulo 251. `None` if it would be larger than allowed.
 fn buffer(room: u16) -> Option<Vec<u8>> {
     let room = room as usize;
     (room <= ROOM_MAX).then(|| (0..room).map(|i| (i % 251) as u8).collect())

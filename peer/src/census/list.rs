@@ -1,5 +1,5 @@
-//! How often a list for the frame program brings up what: each sort of line, each answer, and the
-//! edges between them.
+//! What a list for the frame program brings up, and how often: each sort of line, each answer,
+//! and the edges between them.
 
 use crate::hex;
 use crate::script::LINE_MAX;
@@ -72,7 +72,7 @@ fn asked(text: &[u8]) -> String {
     }
 }
 
-/// What stands at an edge; a line may have none or several.
+/// What lies at an edge; a line may have none or several.
 fn edges(line: &[u8]) -> Vec<String> {
     let mut edges = Vec::new();
     if (1199..=1201).contains(&line.len()) {

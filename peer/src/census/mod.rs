@@ -1,5 +1,5 @@
-//! How often a script brings up what: answers, the ways into RUN and out of it, and more. For
-//! lists of the frame program, `list` does the same.
+//! What a script brings up, and how often: answers, the ways into RUN and out of it, and more.
+//! For lists of the frame program, `list` does the same.
 
 mod bad;
 mod bodies;

@@ -1,4 +1,4 @@
-//! Where a write stands beside the spans that can be written.
+//! Where a write lies, against the spans that can be written.
 
 use crate::frame::Frame;
 

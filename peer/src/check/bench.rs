@@ -1,4 +1,4 @@
-//! The cases on the bench, P1 to P14; P4 to P7 stand with stuffing and CRCs too.
+//! The cases on the bench, P1 to P14; P4 to P7 are among the checks of stuffing and CRCs.
 
 use super::module::{Bench, FIRST, OWN};
 use super::Tally;
@@ -72,7 +72,7 @@ fn no_sync(tally: &mut Tally) {
     tally.check(!bench.runs(), "P9, 20 ticks");
 }
 
-/// P10, the syncs once just before the end of a cycle and once just behind it.
+/// P10, the syncs once just before the end of a cycle and once just after it.
 fn no_output(tally: &mut Tally) {
     for first_wait in [9, 10] {
         let mut bench = Bench::running(10, 2, 5, 0xFD);

@@ -5,7 +5,7 @@ use super::Tally;
 use crate::census::{self, ListCensus};
 use crate::generate;
 
-/// Lines and what they print, one behind the other in one input.
+/// Lines and what they print, one after another in one input.
 const LINES: [(&str, &str); 48] = [
     ("# a comment", ""),
     ("", ""),
@@ -83,10 +83,10 @@ const FLAGS: [(&str, &str); 10] = [
     ("body 7E7E7E7E7E7E7E7E7E", "refused 2: stuffing"),
 ];
 
-/// So many lines are stored, made from this seed.
+/// The seed of the stored list, and how many lines it has.
 const STORED: (u64, usize) = (13, 5000);
 
-/// How often the lines of each sort come at least.
+/// How often the lines of each sort must come, at least.
 const SORTS: [(&str, usize); 29] = [
     ("comment", 60),
     ("empty line", 20),
@@ -119,7 +119,7 @@ const SORTS: [(&str, usize); 29] = [
     ("port before no kind", 100),
 ];
 
-/// And what stands at an edge.
+/// And what lies at an edge.
 const EDGES: [(&str, usize); 27] = [
     ("# alone", 20),
     ("space before #", 20),

@@ -110,8 +110,8 @@ fn stuffing_cases(tally: &mut Tally) {
     }
 }
 
-/// Written, then read between the flags: the same frame; behind the closing flag nothing changed;
-/// in a buffer one byte too small nothing at all.
+/// Written, then read between the flags, it is the same frame. Nothing changes after the closing
+/// flag, and nothing at all in a buffer that is one byte too small.
 fn round_trip(tally: &mut Tally, random: &mut Random, kind: u8, datl: u8) {
     const FILL: u8 = 0xA5;
     let sample = sample::frame(random, kind, datl);

@@ -1,4 +1,4 @@
-//! A module to check with: one concentrator, which keeps count itself of cycle and requests.
+//! A module to check with, and one concentrator, which counts cycles and requests itself.
 
 use crate::frame::{self, Frame, Head, SidAssignment, BROADCAST};
 use crate::generate::draft::Draft;

@@ -16,7 +16,7 @@ pub fn run(tally: &mut Tally) {
     tids(tally);
 }
 
-/// The spans as document 01 lists them, and whether the mode is RUN where it matters.
+/// The spans as document 01 lists them, and whether the mode is RUN, if it matters.
 fn expected(running: bool, first: usize, last: usize) -> bool {
     let inside = |low, high| low <= first && last <= high;
     inside(0x17, 0x17)
@@ -27,7 +27,7 @@ fn expected(running: bool, first: usize, last: usize) -> bool {
         || (inside(0x80, 0xBF) && running)
 }
 
-/// Bytes of 55h, which every span takes, in all lengths up to one more than the longest span.
+/// Bytes of 55h, which every span accepts, in all lengths up to one more than the longest span.
 fn places(tally: &mut Tally, start: &Bench, add: u8) {
     let right = (0..=65).all(|length| {
         let mut bench = start.clone();
@@ -63,7 +63,7 @@ fn zeros(tally: &mut Tally) {
     }
 }
 
-/// Of all values of 17h only 55h and AAh are taken; AAh means fallback.
+/// Of all values of 17h only 55h and AAh are accepted; AAh means fallback.
 fn releases(tally: &mut Tally) {
     for value in 0..=0xFF {
         let mut bench = Bench::running(10, 2, 5, 0x07);

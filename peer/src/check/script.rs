@@ -12,7 +12,7 @@ const EXAMPLE: (&str, &str) = (
     "LINE ANSWER MODE CYC\n1 0 F 01\n2 1 F 01\n3 21 F 01\n",
 );
 
-/// Lines and what they print behind their number, one behind the other on one module.
+/// Lines and what they print after their number, one after another on one module.
 const FORMS: [(&str, &str); 24] = [
     ("", "BAD"),
     ("1 ", "1 F 00"),
@@ -40,7 +40,7 @@ const FORMS: [(&str, &str); 24] = [
     (" 1 00", "BAD"),
 ];
 
-/// So often every answer comes up in 6,000 lines.
+/// How often every answer must come up in 6,000 lines, at least.
 const OFTEN: usize = 50;
 
 const IN_A_SCRIPT: [(&str, usize); 13] = [

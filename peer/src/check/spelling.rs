@@ -6,7 +6,7 @@ use crate::generate::random::Random;
 use crate::generate::sample;
 use crate::spelling::{self, spell_frame};
 
-/// Lines and what they print, one behind the other in one input.
+/// Lines and what they print, one after another in one input.
 const LINES: [(&str, &str); 28] = [
     (" ", "1 BAD: no such kind"),
     ("Sync", "2 BAD: no such kind"),
@@ -68,7 +68,7 @@ const LINES: [(&str, &str); 28] = [
     ),
 ];
 
-/// The end of the grammar, behind the kinds.
+/// The end of the grammar, after the kinds.
 const CLOSING: [&str; 4] = [
     "body xx...",
     "P FRAME: a port digit, a space and any line above",
@@ -124,7 +124,7 @@ fn long_lines(tally: &mut Tally) {
         let line = format!("body {}", "0".repeat(characters - 5));
         tally.check(output(&line) == wanted, "a frame line at the limit");
     }
-    // 255 data bytes are the most; more are another refusal than too long a line.
+    // 255 data bytes are the most; more are refused with 8, unlike a line that is too long.
     let write = |bytes| format!("plain-write to=21 src=F0 at=80 data={}", "00".repeat(bytes));
     tally.check(!output(&write(255)).contains("refused"), "255 data bytes");
     let refused = "refused 8: length, COM or sync address wrong for the TYP\n";

@@ -71,7 +71,7 @@ pub struct SidAssignment {
     pub sid: u32,
 }
 
-/// All fields but TYP, the safety CRC, a COM that the kind already tells, and the data bytes.
+/// All fields but TYP, the safety CRC, a COM that the kind already fixes, and the data bytes.
 #[derive(Clone, Copy, Debug, PartialEq, Eq)]
 pub enum Frame {
     Sync {

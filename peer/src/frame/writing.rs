@@ -1,4 +1,4 @@
-//! Writing a frame into a buffer: numbers 5 (address), 8 (a frame that no reader would take)
+//! Writing a frame into a buffer: numbers 5 (address), 8 (a frame that no reader would read)
 //! and 20 (room), in this order.
 
 use super::*;
@@ -7,7 +7,7 @@ use crate::crc::{self, crc};
 use crate::fields::Writer;
 use crate::refusal::Refusal;
 
-/// Tells the length with both flags. A refusal changes no byte of the buffer.
+/// Returns the length with both flags. A refusal changes no byte of the buffer.
 pub fn write(address: u8, frame: &Frame, data: &[u8], buffer: &mut [u8]) -> Result<usize, Refusal> {
     if body::reserved(address) {
         return Err(Refusal::ReservedAddress);
@@ -59,7 +59,7 @@ fn data_length(frame: &Frame) -> usize {
     }
 }
 
-/// The content with its safety CRC behind it, if its TYP is a safe one.
+/// The content, followed by its safety CRC if the TYP is a safe one.
 pub fn seal(content: Vec<u8>) -> Vec<u8> {
     if safe(content[0]) != Some(true) {
         return content;

@@ -12,7 +12,7 @@ use other::Other;
 use std::collections::BTreeMap;
 use std::io;
 
-/// One script in so many is a long one.
+/// One script in this many is a long one.
 const LONG_ONE_IN: usize = 40;
 
 #[derive(Default)]

@@ -16,7 +16,7 @@ impl Other {
         }
     }
 
-    /// What it printed; a program that failed has that said behind its output.
+    /// What it printed; if the program failed, that is said after its output.
     pub fn trace(&self, script: &[u8]) -> io::Result<Vec<u8>> {
         let mut child = Command::new(&self.words[0])
             .args(&self.words[1..])
@@ -36,7 +36,7 @@ impl Other {
     }
 }
 
-/// A program that stops reading shows it by its output.
+/// A program that stops reading shows this in its output.
 fn ignore_closed(outcome: io::Result<()>) {
     if let Err(error) = outcome {
         assert_eq!(error.kind(), ErrorKind::BrokenPipe, "{error}");

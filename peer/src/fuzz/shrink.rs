@@ -18,7 +18,7 @@ pub fn shortest(lines: Lines, fails: impl Fn(&Lines) -> io::Result<bool>) -> io:
     fewer_ticks(lines, &fails)
 }
 
-/// Each run of so many lines is deleted if the rest still fails; tells whether any was.
+/// Each run of `size` lines is deleted if the rest still fails; returns whether any was.
 fn without_chunks(
     lines: Lines,
     size: usize,
@@ -37,7 +37,7 @@ fn without_chunks(
     Ok((lines, any))
 }
 
-/// Waits as short as can be, by halves.
+/// Waits made as short as possible, by halves.
 fn fewer_ticks(mut lines: Lines, fails: &impl Fn(&Lines) -> io::Result<bool>) -> io::Result<Lines> {
     for place in 0..lines.len() {
         while let Some(count) = ticks(&lines[place]).filter(|&count| count > 1) {

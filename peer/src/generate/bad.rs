@@ -1,4 +1,4 @@
-//! Lines that no case program takes, beside some that look like them and are taken.
+//! Lines that no case program reads, beside some that look like them and are read.
 
 use super::line;
 use crate::cases::{fields_width, KINDS};

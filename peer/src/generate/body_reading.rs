@@ -92,7 +92,7 @@ fn wrong_stuffing(random: &mut Random) -> Vec<Vec<u8>> {
     bodies
 }
 
-/// A last pair that lost its code: the escape stands last.
+/// A last pair that lost its code: the escape comes last.
 fn cut_pair(random: &mut Random) -> Vec<Vec<u8>> {
     let mut bodies = Vec::new();
     while bodies.len() < 6 {

@@ -24,7 +24,7 @@ pub fn longer(body: &[u8], byte: u8) -> Vec<u8> {
     inserted(body, body.len(), &[byte])
 }
 
-/// Every bit of the FCS turned, one at a time, and stuffed as it then stands.
+/// Every bit of the FCS turned, one at a time, and stuffed as it then is.
 pub fn fcs_bits(address: u8, application: &[u8]) -> Vec<Vec<u8>> {
     let right = u16::from_be_bytes(body::fcs_of(address, application));
     (0..16)

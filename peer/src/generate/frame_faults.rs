@@ -40,8 +40,8 @@ fn wrong_lengths(random: &mut Random, kind: u8) -> Vec<Vec<u8>> {
     bodies
 }
 
-/// Every bit of the safety CRC turned, bits of the content turned behind its CRC's back, and
-/// check bytes of other rules. None for kinds without a safety CRC.
+/// Every bit of the safety CRC turned, bits of the content turned with the CRC left as it was,
+/// and check bytes of other rules. None for kinds without a safety CRC.
 fn wrong_safety_crc(random: &mut Random, kind: u8) -> Vec<Vec<u8>> {
     let draft = Draft::new(random, kind, 3);
     if !draft.is_safe() {
@@ -115,7 +115,7 @@ fn line_faults(random: &mut Random, kind: u8) -> Vec<Vec<u8>> {
     ];
     let wrong_fcs = damage::fcs_bits(draft.address, &right);
     bodies.extend(wrong_fcs.into_iter().step_by(5));
-    // A frame with padding behind it: unstuffed 273 and more, then received 544 and more.
+    // A frame with padding after it: unstuffed 273 and more, then received 544 and more.
     for length in [
         270 + random.below(4),
         274 + random.below(266),

@@ -77,7 +77,7 @@ fn of_kind(random: &mut Random, kind: &Kind) -> Vec<Vec<u8>> {
         format!("{right} {}", words[1]),
         format!("{right}\r"),
     ];
-    // Behind each word but the last the line ends, and each is wrong in some way.
+    // The line ends after each word but the last, and each is wrong in some way.
     for place in 1..words.len() {
         lines.push(words[..place].join(" "));
         for word in wrong_words(words[place]) {

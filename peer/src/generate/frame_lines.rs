@@ -20,7 +20,7 @@ const COMS: [u8; 14] = [
     0x00, 0x01, 0x02, 0x03, 0x06, 0x07, 0x08, 0x54, 0x55, 0x6F, 0x70, 0xA9, 0xAA, 0xFF,
 ];
 
-/// The list is cut where `count` is smaller than its fixed part.
+/// The list is cut if `count` is smaller than its fixed part.
 pub fn frame_lines(seed: u64, count: usize) -> Vec<u8> {
     let random = &mut Random::new(seed);
     let mut lines = fixed(random);
@@ -65,7 +65,7 @@ fn addresses(random: &mut Random, kind: u8) -> Vec<String> {
     addresses.into_iter().map(with).collect()
 }
 
-/// Each field, and so many data bytes, full of the same digits; to an address that is free.
+/// Each field, and the data bytes, full of the same digits; to an address that is free.
 pub fn filled(kind: &Kind, digits: &str, bytes: usize) -> String {
     let full = |count| digits.chars().cycle().take(count).collect::<String>();
     let mut text = kind.name.to_string();

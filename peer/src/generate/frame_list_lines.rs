@@ -60,7 +60,7 @@ const NOT_PASSED: [&[u8]; 20] = [
     b"T# 5", b"Ix", b"I0", b"I\r", b"II 00", b"i", b"i 00", b" I 00",
 ];
 
-/// What may stand behind the space of a port digit, though it is no frame and no body.
+/// What may follow a port digit and its space, though it is no frame and no body.
 const BEHIND_A_PORT: [&[u8]; 22] = [
     b"",
     b"00",
@@ -86,12 +86,12 @@ const BEHIND_A_PORT: [&[u8]; 22] = [
     b"refused 4: FCS",
 ];
 
-/// They stand again and again between the other lines, as in a list that somebody writes.
+/// They come again and again between the other lines, as in a list that somebody writes.
 const BETWEEN: [&[u8]; 11] = [
     b"", b"#", b"# text", b" #", b"T", b"T 5", b"Tx", b"I", b"I ", b"T ", b"i 00",
 ];
 
-/// Round the limit of a line.
+/// Around the limit of a line.
 const LENGTHS: [usize; 6] = [1198, 1199, 1200, 1201, 1202, 3000];
 
 /// How long lines start, and what fills them.
@@ -136,7 +136,7 @@ pub fn fixed(random: &mut Random) -> Vec<Vec<u8>> {
     with_others_between(lines)
 }
 
-/// One of `BETWEEN`, in turn, behind each fourth line.
+/// One of `BETWEEN`, in turn, after each fourth line.
 fn with_others_between(lines: Vec<Vec<u8>>) -> Vec<Vec<u8>> {
     let mut others = BETWEEN.iter().cycle();
     let mut mixed = Vec::new();
@@ -176,7 +176,7 @@ fn some_port(random: &mut Random, text: &[u8]) -> Vec<u8> {
 }
 
 /// A port before a right frame, one to a reserved address, some with a wrong field, one with
-/// too much behind it, and one without fields.
+/// too much after it, and one without fields.
 fn ported_kind(random: &mut Random, kind: &Kind) -> Vec<Vec<u8>> {
     let right = filled(kind, "12", 2);
     let mut lines = vec![
@@ -285,7 +285,7 @@ fn only_flags() -> Vec<Vec<u8>> {
         .collect()
 }
 
-/// So many bytes between the flags, at the ends of what a body may have.
+/// Bytes between flags, at the limits of a body's length and past them.
 fn flagged_lengths() -> Vec<Vec<u8>> {
     [5, 6, 7, 8, 541, 542, 543, 544, 545, 590]
         .map(|bytes| format!("body 7E{}7E", "11".repeat(bytes)).into_bytes())

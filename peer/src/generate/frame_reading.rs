@@ -153,7 +153,7 @@ fn sid_assignment_lengths(random: &mut Random) -> Vec<Vec<u8>> {
     bodies
 }
 
-/// Every field byte FFh, 00h, 7Dh and 7Eh behind TYP, one frame for each kind and byte.
+/// Every field byte FFh, 00h, 7Dh and 7Eh after TYP, one frame for each kind and byte.
 fn field_limits(random: &mut Random) -> Vec<Vec<u8>> {
     let mut bodies = Vec::new();
     for kind in [0x00, 0x08, 0x09, 0x0A, 0x0B, 0x0C] {

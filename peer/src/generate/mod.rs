@@ -1,5 +1,5 @@
-//! Seeded cases for the case programs (a fixed list of what must come up, then any), lines for the
-//! frame program, and scripts.
+//! Seeded cases for the case programs (a fixed list of what must come up, then others), lines for
+//! the frame program, and scripts.
 
 mod bad;
 mod body_laying;
@@ -25,7 +25,7 @@ pub use script::script;
 use crate::cases::Program;
 use random::Random;
 
-/// The list is cut where `count` is smaller than its fixed part.
+/// The list is cut if `count` is smaller than its fixed part.
 pub fn cases(program: Program, seed: u64, count: usize) -> Vec<String> {
     let random = &mut Random::new(seed);
     let mut lines = fixed(program, random);

@@ -45,8 +45,8 @@ pub fn bytes_with_stuffed(random: &mut Random, length: usize, stuffed: usize) ->
     bytes
 }
 
-/// An address and so much application data that, with the right FCS, make a body of
-/// `received` bytes on the line. Where the FCS has to be stuffed whole, some ten thousand
+/// An address and application data that, with the right FCS, make a body of `received`
+/// bytes on the line. If both bytes of the FCS have to be stuffed, some ten thousand
 /// tries are made; both polynomial and stuffed bytes have an even count of ones, so an
 /// address must have one too, and is drawn anew each time.
 pub fn of_length(random: &mut Random, application: usize, received: usize) -> (u8, Vec<u8>) {

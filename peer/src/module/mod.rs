@@ -1,7 +1,7 @@
 //! The agent of one SIL2 output module: its state, and what ticks, inputs and frames do to it.
 //!
 //! The names of document 01: `cycle` is c, `in_cycle` e, `since_sync` s, `since_output` q,
-//! `taken` k; t, n and m stand in the registers.
+//! `taken` k; t, n and m are in the registers.
 
 mod assignment;
 mod call;
@@ -60,12 +60,12 @@ impl Agent {
         }
     }
 
-    /// n × t: so many ms without a sync are too many.
+    /// n × t: this many ms without a sync are too many.
     pub fn sync_limit(&self) -> u32 {
         self.registers.cnf_cyc() as u32 * self.registers.tcyc() as u32
     }
 
-    /// m × t: so many ms in RUN without an output write are too many.
+    /// m × t: this many ms in RUN without an output write are too many.
     pub fn output_limit(&self) -> u32 {
         self.registers.cnf_rep() as u32 * self.registers.tcyc() as u32
     }

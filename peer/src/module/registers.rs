@@ -77,7 +77,7 @@ impl Registers {
         registers
     }
 
-    /// The bytes must fit behind the place.
+    /// The bytes must fit from `place` on.
     pub fn put(&mut self, place: u8, bytes: &[u8]) {
         let place = place as usize;
         self.bytes[place..place + bytes.len()].copy_from_slice(bytes);

@@ -3,7 +3,7 @@
 use super::line::LINE_MAX;
 use std::io::{self, BufRead, BufReader, Read};
 
-/// One character too many tells a line that is too long.
+/// One character too many shows that a line is too long.
 const KEPT_MAX: usize = LINE_MAX + 1;
 
 pub struct Lines<R: Read> {
@@ -25,7 +25,7 @@ impl<R: Read> Lines<R> {
     }
 
     /// The next line without its LF, cut to `KEPT_MAX`; `None` at the end. A last line
-    /// without LF is a line, nothing follows a final one.
+    /// without LF is a line; no line follows a final LF.
     pub fn next_line(&mut self) -> io::Result<Option<&[u8]>> {
         self.line.clear();
         let mut start = self.input.by_ref().take(KEPT_MAX as u64);

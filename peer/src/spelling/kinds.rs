@@ -3,7 +3,7 @@
 pub struct Kind {
     pub name: &'static str,
     pub fields: &'static [Field],
-    /// Whether `data=` stands behind the fields.
+    /// Whether `data=` follows the fields.
     pub with_data: bool,
 }
 

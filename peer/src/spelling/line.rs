@@ -10,7 +10,7 @@ pub enum Line<'a> {
     Nothing,
     /// A line of a script, printed unchanged.
     Script(&'a [u8]),
-    /// A frame or a body. What stands before the answer is a port digit and a space, or nothing.
+    /// A frame or a body. Before the answer comes a port digit and a space, or nothing.
     Question(&'a [u8], Question),
 }
 
@@ -19,7 +19,7 @@ pub enum Question {
     Body(Vec<u8>),
 }
 
-/// The values stand in the order of the kind's fields.
+/// The values are in the order of the kind's fields.
 pub struct Spelled {
     pub kind: &'static Kind,
     pub values: Vec<u64>,
@@ -121,7 +121,7 @@ impl<'a> Words<'a> {
         word
     }
 
-    /// From behind one space to the next or the end; `None` at the end.
+    /// From after one space to the next or the end; `None` at the end.
     fn next(&mut self) -> Option<&'a [u8]> {
         self.left = self.left.strip_prefix(b" ")?;
         Some(self.first())

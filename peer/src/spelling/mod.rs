@@ -58,7 +58,7 @@ fn answer(question: &Question) -> String {
     outcome.unwrap_or_else(|refusal| format!("refused {}: {}", refusal.number(), words(refusal)))
 }
 
-/// Without the two flags, where both are there, as in a reply that a trace shows.
+/// Without the two flags, if both are there, as in a reply that a trace shows.
 fn between_flags(body: &[u8]) -> &[u8] {
     match body {
         [FLAG, inner @ .., FLAG] => inner,
@@ -66,7 +66,7 @@ fn between_flags(body: &[u8]) -> &[u8] {
     }
 }
 
-/// The body as it stands between the flags.
+/// The body without its flags.
 fn body_of(spelled: &Spelled) -> Result<Vec<u8>, Refusal> {
     let (address, frame) = values::frame_of(spelled);
     let mut buffer = [0; REPLY_ROOM];

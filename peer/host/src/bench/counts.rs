@@ -4,7 +4,7 @@ use crate::workloads::Workload;
 use std::io::ErrorKind;
 use std::process::Command;
 
-/// The counts of two runs that differ by so many calls.
+/// The calls of two runs; the count of one is subtracted from that of the other.
 const FEW: usize = 768;
 const MANY: usize = 3 * FEW;
 

@@ -73,7 +73,7 @@ impl<A> Side<A> {
 /// What a workload sets in an agent without a call.
 pub trait Settable {
     fn set(&mut self, agent: &Agent);
-    /// As if no request were taken in the cycle and all clocks stood at their start.
+    /// As if no request were taken in the cycle and all clocks were at their start.
     fn rewind(&mut self);
 }
 

@@ -9,7 +9,7 @@ const SIZE: usize = 256 * 1024;
 const PAINT: u8 = 0xA5;
 
 /// The most bytes that any call of the workload touched below its caller's frame; what the
-/// way to the call takes is measured by an empty call, and taken off.
+/// way to the call uses is measured by an empty call, and subtracted.
 pub fn of<A: Settable>(workload: &Workload, side: &mut Side<A>) -> usize {
     workload.set(side);
     let nothing = touched(|| {});

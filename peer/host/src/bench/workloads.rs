@@ -114,7 +114,7 @@ impl Workload {
         side.agent.set(&(self.start)());
     }
 
-    /// So many calls, from the start.
+    /// `count` calls, from the start.
     pub fn play<A: Settable>(&self, side: &mut Side<A>, count: usize) {
         self.set(side);
         let calls = self.calls();
@@ -148,7 +148,7 @@ impl Workload {
         )
     }
 
-    /// The mean length of a body; 0 where no frame is received.
+    /// The mean length of a body; 0 if no frame is received.
     pub fn mean_length(&self) -> f64 {
         let lengths: Vec<usize> = self.calls().iter().filter_map(Call::length).collect();
         match lengths.len() {

@@ -25,7 +25,7 @@ pub const HARMLESS: [(&str, Change); 9] = [
             state.known[place] = random.next() as u32;
         }
     }),
-    // In RUN it is unsound, then it is taken back.
+    // In RUN this is unsound; the change is then dropped.
     ("s near its end", |random, state| {
         state.silence = 65_535 - random.below(3) as u16;
     }),

@@ -25,7 +25,7 @@ pub struct Left {
     pub sent: u16,
 }
 
-/// The reply buffer as it is handed in, with as many bytes behind its end, which stay.
+/// The reply buffer as it is handed in, with as many bytes after its end, which stay.
 pub fn fresh_reply(room: usize) -> Vec<u8> {
     (0..room + 64).map(|place| (place * 7 + 3) as u8).collect()
 }

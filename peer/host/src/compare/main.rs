@@ -1,7 +1,7 @@
 //! The static library beside the second implementation, call by call and byte by byte.
 //!
-//! `compare SEED SCRIPTS LINES`: so many scripts of so many lines, with calls between them on
-//! unsound states, short buffers and other ports. Stops at the first difference.
+//! `compare SEED SCRIPTS LINES`: SCRIPTS scripts of LINES lines each, with calls between the lines
+//! on unsound states, short buffers and other ports. Stops at the first difference.
 
 mod alter;
 mod call;

@@ -1,4 +1,4 @@
-//! A script on the library's agent, every call compared, with calls between that a script has not.
+//! A script on the library's agent, every call compared, with calls between that no script has.
 
 use crate::alter::{any_bytes, HARMLESS};
 use crate::call::{given, wanted, Call};
@@ -11,7 +11,7 @@ use peer::generate::{self, sample};
 use peer::module::{Agent, REPLY_ROOM};
 use peer::script::{parse, Line};
 
-/// Calls between, one in so many lines of each sort.
+/// Calls between: of each sort, one in this many lines.
 const UNSOUND: usize = 2;
 const HARMLESS_CHANGE: usize = 30;
 const ANY_BYTES: usize = 4;

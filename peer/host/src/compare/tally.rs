@@ -1,4 +1,4 @@
-//! How often what came up; some things must have.
+//! What came up and how often; some things must have come up.
 
 use crate::alter::HARMLESS;
 use crate::spoil::WAYS;

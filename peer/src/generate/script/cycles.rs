@@ -62,7 +62,7 @@ pub fn write_outputs(stage: &mut Stage) {
     stage.write(start as u8, &data);
 }
 
-/// From a CYC before the wrap to one behind it, all in RUN. The step over the wrap is made by
+/// From a CYC before the wrap to one after it, all in RUN. The step over the wrap is made by
 /// a sync or by the clock.
 pub fn wrap(stage: &mut Stage) {
     stage.heard_in_fallback(1);

@@ -1,4 +1,4 @@
-//! Frames with one fault, numbers 1 to 11, made from frames that would be taken.
+//! Frames with one fault, numbers 1 to 11, made from frames that would be accepted.
 
 use super::super::draft::Draft;
 use super::super::random::Random;
@@ -15,7 +15,7 @@ use crate::module::NO_SID;
 /// Neither a read nor a write.
 const WRONG_COMS: [u8; 10] = [0x00, 0x01, 0x02, 0x07, 0x70, 0x76, 0x78, 0x87, 0x89, 0xFF];
 
-/// A frame that would be taken now, or nearly so.
+/// A frame that would be accepted now, or nearly so.
 pub fn good(stage: &mut Stage) -> Draft {
     let cyc = stage.next_cycle();
     match stage.random.below(8) {

@@ -1,4 +1,4 @@
-//! Lines that are no frames, or on no port: BAD ones, and answers 21.
+//! Lines that are not frames, or on no port: BAD ones, and answers of 21.
 
 use super::faults::good;
 use super::stage::Stage;
@@ -64,7 +64,7 @@ const WRONG: [&[u8]; 58] = [
     b"BAD",
 ];
 
-/// Bytes that are no text.
+/// Bytes that are not text.
 const NO_TEXT: [&[u8]; 8] = [
     b"\0",
     b"1 00\0",
@@ -135,7 +135,7 @@ pub fn long(stage: &mut Stage) {
     stage.line([b"T 1", &vec![b' '; 1198][..]].concat());
 }
 
-/// One line longer than any buffer, one good line behind it.
+/// One line longer than any buffer, then a good line.
 pub fn huge(stage: &mut Stage) {
     stage.line([b"1 ", &vec![b'0'; 70_000][..]].concat());
     stage.ticks(1);

@@ -121,7 +121,7 @@ impl Stage {
         self.sync(self.active(), cyc);
     }
 
-    /// A heard cycle that takes so many requests more.
+    /// A heard cycle that takes `room` more requests.
     pub fn heard_cycle(&mut self, room: u8) {
         if !self.agent().heard || self.agent().taken > REQUESTS_MAX - room {
             self.begin_cycle();

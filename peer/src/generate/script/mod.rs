@@ -67,15 +67,15 @@ const SCENES: [(Scene, usize); 42] = [
     (marks::silent, 3),
 ];
 
-/// Lines that are no frames, also in every deck.
+/// Lines that are not frames, also in every deck.
 const LINE_SCENES: [(Scene, usize); 3] = [(lines::bad, 5), (lines::long, 1), (lines::ports, 8)];
 
-/// Long scenes, each played once in a long script, when so many hundredths of it are done.
+/// Long scenes, each played once in a long script, when this many hundredths of it are done.
 const ONCE: [(usize, Scene); 2] = [(40, cycles::marathon), (60, lines::huge)];
 
 const LONG: usize = 2000;
 
-/// A script of so many lines from power-up.
+/// A script of `count` lines from power-up.
 pub fn script(seed: u64, count: usize) -> Vec<u8> {
     let mut stage = Stage::new(seed);
     opening::play(&mut stage);

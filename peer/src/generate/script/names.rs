@@ -95,7 +95,7 @@ pub fn stranger(stage: &mut Stage) -> u32 {
     }
 }
 
-/// Records one more, until there are so many.
+/// Records one more, unless there are `wanted` already.
 pub fn record_up_to(stage: &mut Stage, wanted: usize) {
     if stage.agent().recorded.len() < wanted.min(RECORDED_MAX) {
         let src = stranger(stage);
@@ -104,7 +104,7 @@ pub fn record_up_to(stage: &mut Stage, wanted: usize) {
     }
 }
 
-/// The form for SIL4 modules, which this one does not take, with a right CRC and a wrong one.
+/// The form for SIL4 modules, which this one does not accept, with a right CRC and a wrong one.
 pub fn sil4(stage: &mut Stage) -> Draft {
     let known = stage.random.pick(&stage.agent().recorded.clone());
     let first = stage.assignment(known);

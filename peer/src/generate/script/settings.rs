@@ -1,4 +1,4 @@
-//! The settings of the module: taken in fallback, refused in RUN, and what replies they give.
+//! The settings of the module: accepted in fallback, refused in RUN, and what replies they give.
 
 use super::cycles;
 use super::stage::Stage;
@@ -97,7 +97,7 @@ pub fn set_limits(stage: &mut Stage, time: u8, sync: u8, output: u8) {
     }
 }
 
-/// Limits of 0, which fallback does not take, and any settings, which RUN does not take.
+/// Limits of 0, which fallback does not accept, and any settings, which RUN does not accept.
 pub fn refused(stage: &mut Stage) {
     stage.heard_in_fallback(8);
     for _ in 0..4 {
@@ -141,7 +141,7 @@ fn set_reference(stage: &mut Stage, place: u8, size: u8) {
     }
 }
 
-/// A cycle time smaller than the ms that are already gone: the next tick sees it, a sync not.
+/// A cycle time smaller than the ms that are already gone: the next tick sees it, a sync does not.
 pub fn shorter(stage: &mut Stage) {
     set_limits(stage, 20, 1, 5);
     stage.heard_in_fallback(4);

@@ -129,7 +129,7 @@ pub fn pending_release(stage: &mut Stage) {
     stage.begin_cycle();
 }
 
-/// A sync of a wrong cycle ends RUN; it does not restart the clock for the release behind it.
+/// A sync of a wrong cycle ends RUN; it does not restart the clock for the release after it.
 pub fn after_refusal(stage: &mut Stage) {
     set_limits(stage, 10, 2, 5);
     stage.reach_run();

@@ -74,7 +74,7 @@ pub fn outside(stage: &mut Stage) {
     }
 }
 
-/// Bytes that 17h takes, so that only the place can be wrong, or any.
+/// Bytes that 17h accepts, so that only the place can be wrong, or any.
 fn data(stage: &mut Stage, length: usize) -> Vec<u8> {
     let byte = stage.random.pick(&[0x55, 0x55, 0xAA]);
     match stage.random.below(3) {

@@ -11,12 +11,12 @@ use crate::module::Agent;
 use crate::script::{Player, TICKS_MAX};
 use std::collections::HashMap;
 
-/// So many bodies are kept, to be said again later.
+/// How many bodies are kept, to be said again later.
 const MEMORY: usize = 200;
 
 pub struct Stage {
     pub random: Random,
-    /// Where each list that is gone through in turn stands.
+    /// The index last used in each list that is gone through in turn.
     turns: HashMap<&'static str, usize>,
     player: Player,
     lines: Vec<Vec<u8>>,
@@ -56,7 +56,7 @@ impl Stage {
         text
     }
 
-    /// Tells the answer; `None` for a BAD line.
+    /// Returns the answer; `None` for a BAD line.
     pub fn line(&mut self, line: Vec<u8>) -> Option<u8> {
         let played = self.player.play(&line);
         self.lines.push(line);
