@@ -1,4 +1,3 @@
 pub mod FormLaws
 pub mod WordLaws
 pub mod TextLaws
-pub mod ListedLaws

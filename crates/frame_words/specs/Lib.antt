@@ -3,4 +3,3 @@ pub mod Words
 pub mod Table
 pub mod Texts
 pub mod Called
-pub mod Listed

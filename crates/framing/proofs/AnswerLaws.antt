@@ -7,7 +7,7 @@ use native.Mathlib.Omega.{arith}
 use borrow.Author.Tests.{lt-ltb, le-ltb}
 use lib.ListN.{length, length-append}
 use Rattle.base.proofs.Choosing.{never}
-use Rattle.frame_words.specs.Listed.{isSilent, isTicksOrInputs, hasPort, isPortBody}
+use Rattle.list_lines.specs.Listed.{isSilent, isTicksOrInputs, hasPort, isPortBody}
 use Rattle.frame_words.specs.Texts.{room, noText, textIn}
 use Rattle.frame_words.proofs.TextLaws.{pieces-are}
 use Rattle.framing.specs.Answers.{overText, passedText, portText, plainText, answerOf}

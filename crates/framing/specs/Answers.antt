@@ -5,19 +5,11 @@ use lib.Dec.{ltb}
 use lib.ListN.{length, take, drop}
 use Rattle.base.specs.Choice.{choose}
 use Rattle.frame_words.specs.Chars.{chars}
-use Rattle.frame_words.specs.Listed.{isSilent, isTicksOrInputs, hasPort, isPortBody}
+use Rattle.list_lines.specs.Listed.{isSilent, isTicksOrInputs, hasPort, isPortBody}
 use Rattle.frame_words.specs.Texts.{noText, put, endLine}
 use Rattle.frame_words.specs.declared.texts.Text.{Text}
 use Rattle.frame_text.specs.Said.{badText}
-use Rattle.frame_text.specs.Built.{builtText}
-use Rattle.frame_text.specs.Explained.{explainedText}
-use Rattle.framing.specs.Outcome.{Outcome, build, explain, complain, outcomeOf}
-
--- what is built or explained is put after a start; a complaint is printed without it, with the line's number
-abbrev pub said : List ℕ → Text → Outcome → Text
-said number start (build k vs xs) = builtText start k vs xs
-said number start (explain bs) = explainedText start bs
-said number start (complain words) = badText number words
+use Rattle.frame_asking.specs.Outcome.{outcomeOf, said}
 
 -- ---- lines, each with its LF
 -- too long

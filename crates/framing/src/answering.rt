@@ -3,11 +3,9 @@ ghost use mathlib.Core.Path.{_≡_};
 ghost use mathlib.Core.Bool.{true};
 ghost use Prim.Native.Nat.{_≤_};
 ghost use lib.ListN.{length};
-ghost use Rattle.frame_words.specs.Listed.{hasPort};
+ghost use Rattle.list_lines.specs.Listed.{hasPort};
 ghost use Rattle.framing.specs.Answers.{answerOf, overText, passedText, portText};
-use crate::asking;
 use frame_text::said::bad;
-use frame_words::listed;
 use frame_words::texts;
 use frame_words::texts::Text;
 
@@ -33,7 +31,7 @@ fn behind_port(number: &[u8], line: &[u8]) -> Text
     ensures { λ r. ⌜ r ≡ portText (now (number .entry)) (now (line .entry)) ⌝ }
 {
     let port = texts::add(texts::no_text(), &line[..2]);
-    texts::end_line(asking::asked(number, port, &line[2..]))
+    texts::end_line(frame_asking::asked(number, port, &line[2..]))
 }
 
 // The answer to a line; `number` is its number, in decimal digits.
@@ -43,17 +41,17 @@ pub fn answer(number: &[u8], line: &[u8]) -> Text
     if MOST < line.len() {
         return over(number);
     }
-    if listed::is_silent(line) {
+    if list_lines::is_silent(line) {
         return texts::no_text();
     }
-    if listed::is_ticks_or_inputs(line) {
+    if list_lines::is_ticks_or_inputs(line) {
         return passed(line);
     }
-    if listed::is_port_body(line) {
+    if list_lines::is_port_body(line) {
         return passed(line);
     }
-    if listed::has_port(line) {
+    if list_lines::has_port(line) {
         return behind_port(number, line);
     }
-    texts::end_line(asking::asked(number, texts::no_text(), line))
+    texts::end_line(frame_asking::asked(number, texts::no_text(), line))
 }

@@ -1,6 +1,5 @@
 // Lists answered line by line, for saturn-frame: frames are built, bodies explained, a script's own lines passed on.
 mod answering;
-mod asking;
 mod running;
 
 pub use running::run;

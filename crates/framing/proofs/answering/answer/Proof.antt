@@ -1,7 +1,7 @@
 -- `answering::answer` meets its contract, rule by rule. Assumes nothing.
 use mathlib.Core.Path.{_≡_, sym, _∙_, ap}
 use mathlib.Core.Bool.{false}
-use Rattle.frame_words.specs.Listed.{isSilent, isTicksOrInputs, isPortBody}
+use Rattle.list_lines.specs.Listed.{isSilent, isTicksOrInputs, isPortBody}
 use Rattle.frame_words.specs.Texts.{endLine}
 use Rattle.framing.proofs.AnswerLaws.{answer-over, answer-silent, answer-ticks, answer-body, answer-port, answer-plain}
 use borrow.Author.Needs.{needs}

@@ -4,7 +4,7 @@ use Prim.Native.Nat.{_-_, _≤_}
 use native.Mathlib.Omega.{arith}
 use lib.ListN.{length, take, drop, length-take, length-drop}
 use lib.Seq.{take-all}
-use Rattle.frame_words.proofs.ListedLaws.{port-long}
+use Rattle.list_lines.proofs.ListedLaws.{port-long}
 use borrow.Author.Needs.{needs}
 use Rattle.framing.proofs.answering.behind_port.Statement.{statement}
 use Rattle.framing.proofs.answering.behind_port.Tie as tie

@@ -1,0 +1,2 @@
+pub mod HexCount
+pub mod OutcomeLaws
