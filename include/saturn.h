@@ -116,9 +116,9 @@ enum {
     SATURN_CRC = 9,
     SATURN_SOURCE = 10,        /* source FFFFFFh or not the one demanded */
     SATURN_ADDRESSEE = 11,     /* SID, MAC or IID not the module's */
-    SATURN_CYCLE = 12,         /* CYC not the one due */
+    SATURN_CYCLE = 12,         /* CYC not the one due, or a request in a cycle whose sync was not heard */
     SATURN_REPEAT = 13,        /* a copy of a sync accepted before, or of a request taken before */
-    SATURN_OUT_OF_ORDER = 14,  /* SEQ not the one due */
+    SATURN_OUT_OF_ORDER = 14,  /* SEQ ahead of the one due */
     SATURN_TOO_MANY = 15,      /* due, but 64 requests were taken in the cycle */
     SATURN_OUTSIDE_RULES = 16, /* write outside the rules */
     SATURN_NOT_ALLOWED = 17,   /* TID or SID not allowed */
@@ -145,9 +145,9 @@ static inline const char *saturn_answer_text(uint8_t answer)
     case SATURN_CRC: return "safety CRC";
     case SATURN_SOURCE: return "source not the one demanded";
     case SATURN_ADDRESSEE: return "SID, MAC or IID of another module";
-    case SATURN_CYCLE: return "CYC not the one due";
-    case SATURN_REPEAT: return "copy of a frame taken before";
-    case SATURN_OUT_OF_ORDER: return "SEQ not the one due";
+    case SATURN_CYCLE: return "CYC not the one due, or cycle not heard";
+    case SATURN_REPEAT: return "copy of a sync accepted or a request taken before";
+    case SATURN_OUT_OF_ORDER: return "SEQ ahead of the one due";
     case SATURN_TOO_MANY: return "64 requests taken in the cycle";
     case SATURN_OUTSIDE_RULES: return "write outside the rules";
     case SATURN_NOT_ALLOWED: return "TID or SID not allowed";
