@@ -3,7 +3,6 @@ ghost use mathlib.Core.Path.{_≡_};
 ghost use lib.ListN.{replicate};
 ghost use lib.Seq.{sets};
 ghost use Rattle.rules.specs.PowerUp.{settings, powerRegs, powerUp};
-use agent_state::fallback::WITHHELD;
 use agent_state::registers::AD_REF;
 use agent_state::registers::CNF_CYC;
 use agent_state::registers::CNF_REP;
@@ -22,6 +21,7 @@ use agent_state::registers::put_low;
 use agent_state::state::IN_FALLBACK;
 use agent_state::state::NOBODY;
 use agent_state::state::UNHEARD;
+use agent_state::state::WITHHELD;
 use agent_state::tid::UNASSIGNED;
 use rules::Agent;
 

@@ -1,8 +1,6 @@
-// The parts of the agent's state and what is done to each: registers, TID, marks, recorded concentrators, modes, soundness.
+// The parts of the agent's state and what is done to each: registers, TID, recorded concentrators, soundness.
 // One function for each rule, as in `rules`. Only the crates of the agent call these.
 pub mod answers;
-pub mod fallback;
-pub mod marks;
 pub mod registers;
 pub mod sound;
 pub mod sources;

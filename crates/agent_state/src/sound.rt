@@ -2,8 +2,6 @@
 // in the order of the definitions.
 ghost use mathlib.Core.Path.{_≡_};
 ghost use Rattle.rules.specs.Sound.{settingsSound, sourcesSound, countersSound, outputsZero, runSound, fallbackSound, sound};
-use crate::fallback::RELEASED;
-use crate::fallback::WITHHELD;
 use crate::registers::CNF_CYC;
 use crate::registers::CNF_REP;
 use crate::registers::IMAGE;
@@ -23,7 +21,9 @@ use crate::state::IN_RUN;
 use crate::state::IS_HEARD;
 use crate::state::MOST_TAKEN;
 use crate::state::NOBODY;
+use crate::state::RELEASED;
 use crate::state::UNHEARD;
+use crate::state::WITHHELD;
 use crate::tid::UNASSIGNED;
 use crate::tid::assignable;
 use rules::Agent;

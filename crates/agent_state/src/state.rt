@@ -1,4 +1,4 @@
-// The state apart from its registers: values of its fields, by name.
+// Values of the state, by name: of its fields, and of OUT_REP.
 pub const IN_RUN: u8 = 1;
 
 pub const IN_FALLBACK: u8 = 0;
@@ -12,3 +12,8 @@ pub const MOST_TAKEN: u8 = 64;
 
 // No source, and no SID.
 pub const NOBODY: u32 = 0xFFFFFF;
+
+// OUT_REP: released, and not released.
+pub const RELEASED: u8 = 0x55;
+
+pub const WITHHELD: u8 = 0xAA;

@@ -5,7 +5,7 @@ ghost use lib.Dec.{eqb, ltb};
 ghost use Rattle.base.specs.Choice.{choose};
 ghost use Rattle.rules.specs.State.{inRun};
 ghost use Rattle.rules.specs.Tick.{counted, limited, cycleEnded, ticked, silenceEnd, syncLimit, commandLimit};
-use agent_state::fallback::enter_fallback;
+use agent_marks::fallback::enter_fallback;
 use agent_state::registers::CNF_CYC;
 use agent_state::registers::CNF_REP;
 use agent_state::registers::TCYC;

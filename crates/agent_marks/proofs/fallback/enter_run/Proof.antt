@@ -2,8 +2,8 @@
 use mathlib.Core.Path.{refl}
 use Rattle.rules.specs.Fallback.{enterRun}
 use borrow.Author.Needs.{needs}
-use Rattle.agent_state.proofs.fallback.enter_run.Statement.{statement}
-use Rattle.agent_state.proofs.fallback.enter_run.Tie as tie
+use Rattle.agent_marks.proofs.fallback.enter_run.Statement.{statement}
+use Rattle.agent_marks.proofs.fallback.enter_run.Tie as tie
 
 element-copy-out-next : tie.Need-element-copy-out-next
 element-copy-out-next c = search needs

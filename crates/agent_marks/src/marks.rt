@@ -1,9 +1,9 @@
 // What a refusal marks and counts: STATUT bits, and counters that stop at 255.
 ghost use mathlib.Core.Path.{_≡_};
 ghost use Rattle.rules.specs.Marks.{counter, lineMarked, formatMarked, sequenceMarked};
-use crate::registers::CPT_FOR;
-use crate::registers::CPT_SEQ;
-use crate::registers::STATUT;
+use agent_state::registers::CPT_FOR;
+use agent_state::registers::CPT_SEQ;
+use agent_state::registers::STATUT;
 use rules::Agent;
 
 // One more, up to 255.

@@ -1,8 +1,8 @@
 -- `marks::format_marked` meets its contract. Assumes nothing.
 use borrow.Author.Needs.{needs}
 use Rattle.rules.specs.Marks.{formatMarked}
-use Rattle.agent_state.proofs.marks.format_marked.Statement.{statement}
-use Rattle.agent_state.proofs.marks.format_marked.Tie as tie
+use Rattle.agent_marks.proofs.marks.format_marked.Statement.{statement}
+use Rattle.agent_marks.proofs.marks.format_marked.Tie as tie
 
 element-copy-out-counter : tie.Need-element-copy-out-counter
 element-copy-out-counter c = search needs

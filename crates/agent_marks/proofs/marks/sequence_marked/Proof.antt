@@ -1,8 +1,8 @@
 -- `marks::sequence_marked` meets its contract. Assumes nothing.
 use borrow.Author.Needs.{needs}
 use Rattle.rules.specs.Marks.{sequenceMarked}
-use Rattle.agent_state.proofs.marks.sequence_marked.Statement.{statement}
-use Rattle.agent_state.proofs.marks.sequence_marked.Tie as tie
+use Rattle.agent_marks.proofs.marks.sequence_marked.Statement.{statement}
+use Rattle.agent_marks.proofs.marks.sequence_marked.Tie as tie
 
 element-copy-out-counter : tie.Need-element-copy-out-counter
 element-copy-out-counter c = search needs

@@ -1,8 +1,8 @@
 -- `fallback::enter_fallback` meets its contract. Assumes nothing.
 use Rattle.rules.specs.Fallback.{enterFallback}
 use borrow.Author.Needs.{needs}
-use Rattle.agent_state.proofs.fallback.enter_fallback.Statement.{statement}
-use Rattle.agent_state.proofs.fallback.enter_fallback.Tie as tie
+use Rattle.agent_marks.proofs.fallback.enter_fallback.Statement.{statement}
+use Rattle.agent_marks.proofs.fallback.enter_fallback.Tie as tie
 
 element-copy-out-next : tie.Need-element-copy-out-next
 element-copy-out-next c = search needs

@@ -1,19 +1,15 @@
 // Entering fallback, and entering RUN.
 ghost use mathlib.Core.Path.{_≡_};
 ghost use Rattle.rules.specs.Fallback.{enterFallback, enterRun};
-use crate::registers::IMAGE;
-use crate::registers::OUT_REP;
-use crate::registers::OUTPUTS;
-use crate::registers::STATUT;
-use crate::registers::fill;
-use crate::state::IN_FALLBACK;
-use crate::state::IN_RUN;
+use agent_state::registers::IMAGE;
+use agent_state::registers::OUT_REP;
+use agent_state::registers::OUTPUTS;
+use agent_state::registers::STATUT;
+use agent_state::registers::fill;
+use agent_state::state::IN_FALLBACK;
+use agent_state::state::IN_RUN;
+use agent_state::state::WITHHELD;
 use rules::Agent;
-
-// OUT_REP: released, and not released.
-pub const RELEASED: u8 = 0x55;
-
-pub const WITHHELD: u8 = 0xAA;
 
 // Sets 80h to BFh to 00h, OUT_REP to AAh, q to 0 and STATUT bit 7.
 pub fn enter_fallback(a: Agent) -> Agent

@@ -2,8 +2,8 @@
 use mathlib.Core.Path.{refl}
 use borrow.Author.Needs.{needs}
 use Rattle.rules.specs.Marks.{lineMarked}
-use Rattle.agent_state.proofs.marks.line_marked.Statement.{statement}
-use Rattle.agent_state.proofs.marks.line_marked.Tie as tie
+use Rattle.agent_marks.proofs.marks.line_marked.Statement.{statement}
+use Rattle.agent_marks.proofs.marks.line_marked.Tie as tie
 
 element-copy-out-next : tie.Need-element-copy-out-next
 element-copy-out-next c = search needs

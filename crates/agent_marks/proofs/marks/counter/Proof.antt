@@ -1,8 +1,8 @@
 -- `marks::counter` meets its contract. Assumes nothing.
 use borrow.Author.Tests.{lt-ltb, le-ltb}
 use borrow.Author.Needs.{needs}
-use Rattle.agent_state.proofs.marks.counter.Statement.{statement}
-use Rattle.agent_state.proofs.marks.counter.Tie as tie
+use Rattle.agent_marks.proofs.marks.counter.Statement.{statement}
+use Rattle.agent_marks.proofs.marks.counter.Tie as tie
 
 add-result : tie.Need-add-result
 add-result c = search needs
