@@ -10,9 +10,9 @@ use Rattle.wire.specs.declared.body.Verdict.{Verdict}
 use Rattle.wire.specs.declared.body.Verdict.the-variants as verdict
 use Rattle.wire.proofs.body.Verdict as verdict-type
 use Rattle.frame_reading.specs.Reading.{readNumber}
-use Rattle.frame_reading.specs.declared.reading.Read.{Read}
-use Rattle.frame_reading.specs.declared.reading.Read.the-variants as read
-use Rattle.frame_reading.proofs.reading.Read as read-type
+use Rattle.frame_forms.specs.declared.forms.Read.{Read}
+use Rattle.frame_forms.specs.declared.forms.Read.the-variants as read
+use Rattle.frame_forms.proofs.forms.Read as read-type
 use Rattle.rules.specs.FrameCall.{onRead, onVerdict}
 use Rattle.rules.specs.Marks.{lineMarked}
 use Rattle.rules.specs.Replies.{does}

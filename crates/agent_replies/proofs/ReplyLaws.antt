@@ -6,7 +6,7 @@ use native.Mathlib.Omega.{arith}
 use borrow.Author.Tests.{ltb-false, eqb-false, lt-ltb}
 use lib.Dec.{eqb, ltb}
 use Rattle.base.proofs.Choosing.{or-left-false, or-right-false}
-use Rattle.frame_reading.specs.Reading.{safeCom}
+use Rattle.frame_forms.specs.Forms.{safeCom}
 use Rattle.agent_replies.specs.Fitting.{Spans}
 
 -- ---- spans

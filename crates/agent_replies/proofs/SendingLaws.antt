@@ -18,7 +18,7 @@ use Rattle.wire.specs.declared.laying.Laid.{Laid}
 use Rattle.wire.specs.declared.laying.Laid.the-variants.{Sent}
 use Rattle.wire.proofs.LayingLaws.{line-most}
 use Rattle.frame_kinds.specs.Kinds.{dataLen, appOf}
-use Rattle.frame_reading.specs.Reading.{safeCom}
+use Rattle.frame_forms.specs.Forms.{safeCom}
 use Rattle.frame_kinds.specs.Sized.{Sized}
 use Rattle.frame_writing.specs.Writing.{is24, fieldsFit, fits, frameLine, writtenOf}
 use Rattle.frame_kinds.specs.declared.kinds.Frame.{Frame}

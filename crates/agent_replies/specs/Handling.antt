@@ -1,6 +1,7 @@
 -- A call returns what the rules give: answer, agent, sent length and reply buffer. Assumes nothing.
 use mathlib.Core.List.{List}
 use Prim.Native.Nat.{ℕ}
+use lib.ListN.{take}
 use Rattle.frame_kinds.specs.declared.kinds.Frame.{Frame}
 use Rattle.frame_kinds.specs.declared.kinds.Frame.the-variants.{Sync, SafeRead, SafeWrite, PlainRead, PlainWrite, SafeResponse, PlainSyncResponse, PlainResponse, TidAssignment, SidAssignment, SidAssignment4, Acknowledgement, Invariants}
 use Rattle.rules.specs.Calls.{AnswersFrame}
@@ -13,6 +14,10 @@ use Rattle.agent_replies.specs.declared.sending.Part.{Part}
 
 abbrev pub Handles : Outcome → Handled → List ℕ → List ℕ → Type 0
 Handles o r before after = AnswersFrame o (r .answer) (r .agent) (r .sent) before after
+
+-- what a call returned, together with the reply buffer
+abbrev pub told : Handled → List ℕ → Outcome
+told h reply = record { answer = h .answer; agent = h .agent; line = take (h .sent) reply }
 
 -- nothing sent
 abbrev pub unsent : ℕ → Agent → Handled

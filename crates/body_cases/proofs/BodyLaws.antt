@@ -1,5 +1,5 @@
 -- Laws of a case of bodies: one for each way through the code. Assumes nothing.
-use mathlib.Core.Path.{_≡_, refl, sym, ap, ap₂, subst, _∙_}
+use mathlib.Core.Path.{_≡_, refl, sym, ap, ap₂, _∙_}
 use mathlib.Core.List.{List, [], _∷_, append-nil}
 use Prim.Native.Nat.{ℕ, _-_, _≤_, _<_}
 use native.Mathlib.Omega.{arith}
@@ -7,7 +7,6 @@ use borrow.Author.Tests.{lt-ltb, le-ltb}
 use lib.ListN.{length, take, drop, length-take, length-drop}
 use lib.Seq.{take-all}
 use Rattle.base.specs.Bytes.{numberAt}
-use Rattle.base.proofs.Choosing.{absurdly}
 use Rattle.wire.specs.Answer.{Answer}
 use Rattle.wire.specs.Body.{verdictAnswer, verdictNumber, bodyAnswer}
 use Rattle.wire.specs.declared.body.Verdict.{Verdict}

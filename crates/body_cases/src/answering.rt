@@ -1,5 +1,4 @@
 // A body that is read, or application data that are laid down, by the operation.
-ghost use mathlib.Core.Path.{_≡_};
 ghost use Prim.Native.Nat.{_≤_};
 ghost use lib.ListN.{length};
 ghost use Rattle.wire.specs.Body.{answerToBody};

@@ -1,6 +1,4 @@
 // The CRC of bytes: the operation picks the polynomial.
-ghost use mathlib.Core.Path.{_≡_};
-ghost use lib.ListN.{take};
 ghost use Rattle.cases.specs.Cases.{answerTo, caseIn, Says};
 ghost use Rattle.crc_cases.specs.Answers.{crcAnswers};
 use cases::answers;

@@ -1,9 +1,9 @@
 -- Laws of the fields of a line: the cases of a word, and a turn of the loop over fields. Assumes nothing.
-use mathlib.Core.Path.{_≡_, refl, ap, _∙_}
+use mathlib.Core.Path.{_≡_, refl, _∙_}
 use mathlib.Core.Bool.{Bool, true, false}
-use mathlib.Core.List.{List, [], _∷_, _++_}
+use mathlib.Core.List.{List, _++_}
 use mathlib.Core.Option.{Option, none, some}
-use Prim.Native.Nat.{ℕ, suc, _+_, _-_, _*_, _≤_, _<_}
+use Prim.Native.Nat.{ℕ, _+_, _-_, _*_, _≤_, _<_}
 use native.Mathlib.Omega.{arith}
 use borrow.Author.Tests.{lt-ltb, le-ltb, ltb-false, eq-eqb, ne-eqb}
 use lib.Dec.{eqb, ltb}
@@ -20,6 +20,7 @@ use Rattle.frame_words.specs.Words.{wordAt, wordEnd, starts}
 use Rattle.frame_words.specs.Table.{fieldsFrom}
 use Rattle.frame_fields.specs.Rows.{valueIn, numberIn, fieldValue, fieldAt, readFields, dataWord, dataAt}
 use Rattle.frame_fields.specs.declared.rows.Value.the-variants.{Number, Wrong}
+use Rattle.frame_words.proofs.FormLaws.{fields-turn, fields-end}
 use Rattle.frame_words.proofs.WordLaws.{word-part}
 
 -- ---- the number of n bytes
@@ -107,24 +108,17 @@ unfolding dataWord
 data-named word e = rw e
 
 -- ---- the fields from the i-th on
-module _ (names digits : List ℕ) (i n : ℕ) where
-  pub fields-turn : i < n → fieldsFrom names digits i (n - i) ≡ (wordAt names (i * 8), getD digits i 0) ∷ fieldsFrom names digits (i + 1) (n - (i + 1))
-  fields-turn h = let e : n - i ≡ suc (n - (i + 1)) = omega arith in ap (fieldsFrom names digits i) e
+module _ (names digits : List ℕ) (i n : ℕ) (s : List ℕ) (to : ℕ) (vs : List ℕ) where
+  pub row-end : n ≤ i → readFields (fieldsFrom names digits i (n - i)) s to i vs ≡ record { values = vs; at = to; count = i }
+  unfolding readFields
+  row-end h = rw (fields-end names digits i n h)
 
-  pub fields-end : n ≤ i → fieldsFrom names digits i (n - i) ≡ []
-  fields-end h = let e : n - i ≡ 0 = omega arith in ap (fieldsFrom names digits i) e
+  pub row-wrong : i < n → fieldAt s to (wordAt names (i * 8)) (getD digits i 0) ≡ Wrong
+      → readFields (fieldsFrom names digits i (n - i)) s to i vs ≡ record { values = vs; at = to; count = i }
+  unfolding readFields
+  row-wrong h e = rw (fields-turn names digits i n h, e)
 
-  module _ (s : List ℕ) (to : ℕ) (vs : List ℕ) where
-    pub row-end : n ≤ i → readFields (fieldsFrom names digits i (n - i)) s to i vs ≡ record { values = vs; at = to; count = i }
-    unfolding readFields
-    row-end h = rw (fields-end h)
-
-    pub row-wrong : i < n → fieldAt s to (wordAt names (i * 8)) (getD digits i 0) ≡ Wrong
-        → readFields (fieldsFrom names digits i (n - i)) s to i vs ≡ record { values = vs; at = to; count = i }
-    unfolding readFields
-    row-wrong h e = rw (fields-turn h, e)
-
-    pub row-number : i < n → (v next : ℕ) → fieldAt s to (wordAt names (i * 8)) (getD digits i 0) ≡ Number v next
-        → readFields (fieldsFrom names digits i (n - i)) s to i vs ≡ readFields (fieldsFrom names digits (i + 1) (n - (i + 1))) s next (i + 1) (set vs i v)
-    unfolding readFields
-    row-number h v next e = rw (fields-turn h, e)
+  pub row-number : i < n → (v next : ℕ) → fieldAt s to (wordAt names (i * 8)) (getD digits i 0) ≡ Number v next
+      → readFields (fieldsFrom names digits i (n - i)) s to i vs ≡ readFields (fieldsFrom names digits (i + 1) (n - (i + 1))) s next (i + 1) (set vs i v)
+  unfolding readFields
+  row-number h v next e = rw (fields-turn names digits i n h, e)

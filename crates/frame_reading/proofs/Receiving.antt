@@ -11,8 +11,8 @@ use Rattle.wire.specs.declared.body.Verdict.{Verdict}
 use Rattle.wire.specs.declared.body.Verdict.the-variants as verdict
 use Rattle.frame_kinds.specs.Kinds.{dataIn}
 use Rattle.frame_reading.specs.Reading.{readApp, readAnswer, answerToApp, receivedApp, byVerdict, receivedBody, readFrame, receivedAnswer, answerToFrame}
-use Rattle.frame_reading.specs.declared.reading.Read.{Read}
-use Rattle.frame_reading.specs.declared.reading.Read.the-variants.{Valid, Kind, Form, Check}
+use Rattle.frame_forms.specs.declared.forms.Read.{Read}
+use Rattle.frame_forms.specs.declared.forms.Read.the-variants.{Valid, Kind, Form, Check}
 use Rattle.frame_reading.specs.declared.reading.Reading.the-variants as reading
 use Rattle.frame_kinds.specs.declared.kinds.Frame.{Frame}
 

@@ -27,7 +27,7 @@ use Rattle.frame_words.specs.Texts.{put, puts}
 use Rattle.frame_fields.specs.Numbers.{kindOf, numbersOf}
 use Rattle.frame_text.specs.Explained.{putField, putFields, dataOf, frameText, byReading, readText, isFlagged, explainedText}
 use Rattle.frame_words.specs.declared.texts.Text.{Text}
-use Rattle.frame_fields.proofs.RowLaws.{fields-turn, fields-end}
+use Rattle.frame_words.proofs.FormLaws.{fields-turn, fields-end}
 
 -- the w bytes of a number, stored at the start
 pub stored-bytes : (buf : List ℕ) (w n : ℕ) → w ≤ length buf → take w (sets buf 0 (bytesOf w n)) ≡ bytesOf w n

@@ -1,4 +1,3 @@
 pub mod Said
 pub mod Built
 pub mod Explained
-pub mod Grammar

@@ -1,9 +1,12 @@
--- What a kind's form holds: antt reads its word and its fields out of the columns. Assumes nothing.
-use mathlib.Core.Path.{_≡_, refl, sym, subst}
-use Prim.Native.Nat.{_≤_}
+-- What a kind's form holds: antt reads its word and its fields out of the columns; and a turn of a loop over them. Assumes
+-- nothing.
+use mathlib.Core.Path.{_≡_, refl, sym, ap, subst}
+use mathlib.Core.List.{List, [], _∷_}
+use Prim.Native.Nat.{ℕ, suc, _+_, _-_, _*_, _≤_, _<_}
 use native.Mathlib.Omega.{arith}
+use lib.ListN.{getD}
 use Rattle.frame_words.specs.Words.{wordAt, wordIn}
-use Rattle.frame_words.specs.Table.{kindWord, fieldsOf, fieldsIn, formOf}
+use Rattle.frame_words.specs.Table.{kindWord, fieldsOf, fieldsIn, fieldsFrom, formOf}
 use Rattle.frame_words.specs.declared.table.Form.{Form}
 use Rattle.frame_words.specs.declared.table.Kind.{Kind}
 use Rattle.frame_words.specs.declared.table.Kind.the-variants.{Sync, Read, Write, PlainRead, PlainWrite, Response, PlainSyncResponse, PlainResponse, Tid, Sid, Sid4, Ack, Invariants}
@@ -29,3 +32,11 @@ form Invariants = (refl, refl, omega arith)
 
 pub form-holds : (k : Kind) (r : Form) → r ≡ formOf k → Holds k r
 form-holds k r e = subst (Holds k) (sym e) (form k)
+
+-- ---- the fields from the i-th on
+module _ (names digits : List ℕ) (i n : ℕ) where
+  pub fields-turn : i < n → fieldsFrom names digits i (n - i) ≡ (wordAt names (i * 8), getD digits i 0) ∷ fieldsFrom names digits (i + 1) (n - (i + 1))
+  fields-turn h = let e : n - i ≡ suc (n - (i + 1)) = omega arith in ap (fieldsFrom names digits i) e
+
+  pub fields-end : n ≤ i → fieldsFrom names digits i (n - i) ≡ []
+  fields-end h = let e : n - i ≡ 0 = omega arith in ap (fieldsFrom names digits i) e

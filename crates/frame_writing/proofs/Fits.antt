@@ -9,7 +9,7 @@ use lib.Dec.{eqb}
 use Rattle.base.proofs.Choosing.{and-parts}
 use Rattle.fields.specs.Fields.{Fitting}
 use Rattle.frame_kinds.specs.Kinds.{headOf, tailOf}
-use Rattle.frame_reading.specs.Reading.{safeCom}
+use Rattle.frame_forms.specs.Forms.{safeCom}
 use Rattle.frame_writing.specs.Writing.{is24, fieldsFit}
 use Rattle.frame_kinds.specs.Sized.{Sized}
 use Rattle.frame_kinds.specs.declared.kinds.Frame.{Frame}

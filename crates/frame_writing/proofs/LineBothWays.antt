@@ -23,7 +23,7 @@ use Rattle.frame_kinds.specs.Kinds.{dataLen, dataIn, appOf}
 use Rattle.frame_reading.specs.Reading.{readApp, receivedBody, readFrame, readingAnswer, answerToFrame}
 use Rattle.frame_writing.specs.Writing.{fieldsFit, fits, frameLine, writtenOf}
 use Rattle.frame_kinds.specs.Sized.{Sized}
-use Rattle.frame_reading.specs.declared.reading.Read.the-variants.{Valid}
+use Rattle.frame_forms.specs.declared.forms.Read.the-variants.{Valid}
 use Rattle.frame_reading.specs.declared.reading.Reading.{Reading}
 use Rattle.frame_reading.specs.declared.reading.Reading.the-variants as reading
 use Rattle.frame_reading.specs.declared.reading.Received.{Received}

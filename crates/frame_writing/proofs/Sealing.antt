@@ -14,7 +14,7 @@ use Rattle.crc.specs.Crc.{crcOf}
 use Rattle.crc.specs.declared.Poly.the-variants.{Safety}
 use Rattle.crc.proofs.Bound.{of-lt}
 use Rattle.frame_kinds.specs.Kinds.{sealed}
-use Rattle.frame_reading.specs.Reading.{safeOk}
+use Rattle.frame_forms.specs.Forms.{safeOk}
 
 pub sealed-ok : (ys : List ℕ) → safeOk (sealed ys) ≡ true
 unfolding safeOk sealed

@@ -7,7 +7,7 @@ use borrow.Author.Tests.{ltb-true, eqb-true}
 use lib.Dec.{eqb, ltb}
 use Rattle.base.specs.Choice.{choose}
 use Rattle.base.proofs.Choosing.{never, and-parts}
-use Rattle.frame_reading.specs.Reading.{safeCom}
+use Rattle.frame_forms.specs.Forms.{safeCom}
 use Rattle.frame_writing.specs.Writing.{is24, fieldsFit}
 use Rattle.frame_kinds.specs.Sized.{Sized}
 use Rattle.frame_kinds.specs.declared.kinds.Frame.{Frame}

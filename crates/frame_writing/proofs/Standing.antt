@@ -12,7 +12,7 @@ use Rattle.base.specs.Bytes.{Bytes}
 use Rattle.fields.specs.Fields.{laid, fieldsAt, widths, Fitting}
 use Rattle.fields.proofs.Tables.{length-laid, lay-back, fitting-read}
 use Rattle.frame_kinds.specs.Kinds.{headOf, tailOf, isSafe, dataLen, dataPlace, dataIn, sealed, appOf}
-use Rattle.frame_reading.specs.Reading.{safeOk}
+use Rattle.frame_forms.specs.Forms.{safeOk}
 use Rattle.frame_writing.specs.Writing.{fieldsFit}
 use Rattle.frame_kinds.specs.declared.kinds.Frame.{Frame}
 use Rattle.frame_writing.proofs.Fits.{FittingFrame}

@@ -10,13 +10,15 @@ use lib.ListN.{length}
 use Rattle.base.specs.Bytes.{numberAt}
 use Rattle.base.proofs.Choosing.{never, and-true, and-parts}
 use Rattle.fields.specs.Fields.{fieldsAt, numbers}
-use Rattle.frame_reading.specs.Reading.{readSync, safeReadRequest, safeWriteRequest, readSafeRequest, readPlainRequest, safeCom, readSafeResponse, plainCom, readPlainResponse, readTidAssignment, sil2Assignment, sil4Assignment, readSidAssignment, readAcknowledgement, readInvariants, readTyp, readApp}
+use Rattle.frame_forms.specs.Forms.{readSync, safeReadRequest, safeWriteRequest, readSafeRequest, readPlainRequest, safeCom, readSafeResponse, plainCom, readPlainResponse, readTidAssignment, sil2Assignment, sil4Assignment, readSidAssignment, readAcknowledgement, readInvariants}
+use Rattle.frame_reading.specs.Reading.{readTyp, readApp}
 use Rattle.frame_writing.specs.Writing.{is24, fieldsFit}
-use Rattle.frame_reading.specs.declared.reading.Read.the-variants.{Valid}
+use Rattle.frame_forms.specs.declared.forms.Read.the-variants.{Valid}
 use Rattle.frame_kinds.specs.declared.kinds.Frame.{Frame}
 use Rattle.frame_kinds.specs.declared.kinds.Frame.the-variants.{Sync, SafeRead, SafeWrite, PlainRead, PlainWrite, SafeResponse, PlainSyncResponse, PlainResponse, TidAssignment, SidAssignment, SidAssignment4, Acknowledgement, Invariants}
 use Rattle.frame_writing.proofs.Standing.{Stands}
-use Rattle.frame_reading.proofs.Answers.{typ-leads, safe-valid, plain-valid}
+use Rattle.frame_forms.proofs.Answers.{safe-valid, plain-valid}
+use Rattle.frame_reading.proofs.Types.{typ-leads}
 
 -- COM of a plain response is not that of a response to a sync
 not-sync : («com» datl : ℕ) → plainCom «com» datl ≡ true → eqb «com» 0x01 ≡ false

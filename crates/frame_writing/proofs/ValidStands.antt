@@ -11,12 +11,13 @@ use Rattle.base.specs.Bytes.{Bytes, numberAt}
 use Rattle.base.proofs.Numbers.{number-below}
 use Rattle.base.proofs.Choosing.{and-true, and-parts}
 use Rattle.fields.specs.Fields.{fieldsAt}
-use Rattle.frame_reading.specs.Reading.{readSync, safeReadRequest, safeWriteRequest, readSafeRequest, readPlainRequest, safeCom, readSafeResponse, plainCom, readPlainResponse, readTidAssignment, sil2Assignment, sil4Assignment, readSidAssignment, readAcknowledgement, readInvariants, readTyp, readApp}
+use Rattle.frame_forms.specs.Forms.{readSync, safeReadRequest, safeWriteRequest, readSafeRequest, readPlainRequest, safeCom, readSafeResponse, plainCom, readPlainResponse, readTidAssignment, sil2Assignment, sil4Assignment, readSidAssignment, readAcknowledgement, readInvariants}
+use Rattle.frame_reading.specs.Reading.{readTyp, readApp}
 use Rattle.frame_writing.specs.Writing.{is24, fieldsFit}
-use Rattle.frame_reading.specs.declared.reading.Read.the-variants.{Valid}
+use Rattle.frame_forms.specs.declared.forms.Read.the-variants.{Valid}
 use Rattle.frame_kinds.specs.declared.kinds.Frame.{Frame}
 use Rattle.frame_writing.proofs.Standing.{Stands}
-use Rattle.frame_reading.proofs.Answers.{not-kind, not-form, either, safe-says, plain-says}
+use Rattle.frame_forms.proofs.Answers.{not-kind, not-form, either, safe-says, plain-says}
 
 -- TYP and COM are `t` and `c`, the form is `p`, the CRC `q`, and `g` says which frame was read
 module _ (a : ℕ) (s : List ℕ) (bs : Bytes s) (f : Frame) where

@@ -11,7 +11,7 @@ use Rattle.wire.specs.Laying.{lineOf, laidAnswer}
 use Rattle.wire.specs.declared.laying.Laid.{Laid}
 use Rattle.wire.specs.declared.laying.Laid.the-variants.{Sent, Reserved, Form, Room}
 use Rattle.frame_kinds.specs.Kinds.{dataLen, appOf}
-use Rattle.frame_reading.specs.Reading.{safeCom, plainCom}
+use Rattle.frame_forms.specs.Forms.{safeCom, plainCom}
 use Rattle.frame_kinds.specs.declared.kinds.Frame.{Frame}
 use Rattle.frame_kinds.specs.declared.kinds.Frame.the-variants.{Sync, SafeRead, SafeWrite, PlainRead, PlainWrite, SafeResponse, PlainSyncResponse, PlainResponse, TidAssignment, SidAssignment, SidAssignment4, Acknowledgement, Invariants}
 

@@ -8,11 +8,11 @@ ghost use Rattle.frame_kinds.specs.Kinds.{appOf};
 ghost use Rattle.frame_writing.specs.Writing.{fieldsFit, fits, frameLine, writtenOf, answerToWriting};
 use base::copy_at;
 use crc::Poly;
+use frame_forms::forms::plain_com;
+use frame_forms::forms::safe_com;
 use frame_kinds::kinds;
 use frame_kinds::kinds::Frame;
 use frame_kinds::putting;
-use frame_reading::reading::plain_com;
-use frame_reading::reading::safe_com;
 use wire::laying::Laid;
 
 // Whether the fields can be laid down.

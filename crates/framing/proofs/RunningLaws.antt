@@ -21,7 +21,7 @@ use Rattle.console.proofs.HoldsLaws.{holds-short, holds-long}
 use Rattle.frame_words.specs.Texts.{room, noText, put, textIn}
 use Rattle.frame_words.specs.declared.texts.Text.{Text}
 use Rattle.framing.specs.Answers.{answerOf, overText}
-use Rattle.frame_text.specs.Grammar.{grammarText}
+use Rattle.frame_grammar.specs.Grammar.{grammarText}
 use Rattle.framing.proofs.AnswerLaws.{answer-over}
 use Rattle.framing.specs.Running.{numberOf, numberText, answeredIn, endText, answering}
 

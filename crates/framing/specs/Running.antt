@@ -9,7 +9,7 @@ use Rattle.console.specs.Programs.{Program}
 use Rattle.frame_words.specs.Texts.{noText, put, textIn}
 use Rattle.frame_words.specs.declared.texts.Text.{Text}
 use Rattle.framing.specs.Answers.{answerOf, overText}
-use Rattle.frame_text.specs.Grammar.{grammarText}
+use Rattle.frame_grammar.specs.Grammar.{grammarText}
 
 -- the number of the line after n others, in 64 bits; and as text
 abbrev pub numberOf : ℕ → ℕ

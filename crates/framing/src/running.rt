@@ -15,7 +15,7 @@ use crate::answering;
 use console::blocks;
 use console::lines;
 use console::lines::Cursor;
-use frame_text::grammar;
+use frame_grammar::grammar;
 use frame_words::texts;
 use frame_words::texts::Text;
 

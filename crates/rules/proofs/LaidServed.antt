@@ -18,8 +18,8 @@ use Rattle.frame_kinds.specs.Sized.{Sized}
 use Rattle.frame_writing.specs.Writing.{fieldsFit, fits}
 use Rattle.frame_kinds.specs.declared.kinds.Frame.{Frame}
 use Rattle.frame_kinds.specs.declared.kinds.Frame.the-variants.{Sync, SafeRead, SafeWrite, PlainRead, PlainWrite, SafeResponse, PlainSyncResponse, PlainResponse, TidAssignment, SidAssignment, SidAssignment4, Acknowledgement, Invariants}
-use Rattle.frame_reading.specs.declared.reading.Read.{Read}
-use Rattle.frame_reading.specs.declared.reading.Read.the-variants.{Valid}
+use Rattle.frame_forms.specs.declared.forms.Read.{Read}
+use Rattle.frame_forms.specs.declared.forms.Read.the-variants.{Valid}
 use Rattle.frame_writing.proofs.BothWays.{written-then-read}
 use Rattle.frame_writing.proofs.Fits.{fitting}
 use Rattle.frame_writing.proofs.LineBothWays.{app-range}

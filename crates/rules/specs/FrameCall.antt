@@ -14,8 +14,8 @@ use Rattle.frame_kinds.specs.Kinds.{dataIn}
 use Rattle.frame_reading.specs.Reading.{readApp, readNumber}
 use Rattle.frame_kinds.specs.declared.kinds.Frame.{Frame}
 use Rattle.frame_kinds.specs.declared.kinds.Frame.the-variants.{Sync, SafeRead, SafeWrite, PlainRead, PlainWrite, SafeResponse, PlainSyncResponse, PlainResponse, TidAssignment, SidAssignment, SidAssignment4, Acknowledgement, Invariants}
-use Rattle.frame_reading.specs.declared.reading.Read.{Read}
-use Rattle.frame_reading.specs.declared.reading.Read.the-variants.{Valid, Kind, Form, Check}
+use Rattle.frame_forms.specs.declared.forms.Read.{Read}
+use Rattle.frame_forms.specs.declared.forms.Read.the-variants.{Valid, Kind, Form, Check}
 use Rattle.rules.specs.Answers.{elsewhere, typ, form}
 use Rattle.rules.specs.Assignments.{onTid, onSid}
 use Rattle.rules.specs.Marks.{lineMarked, formatMarked}

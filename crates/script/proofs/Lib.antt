@@ -1,4 +1,3 @@
 pub mod RunningLaws
-pub mod PrintingLaws
 pub mod PlayingLaws
 pub mod ScriptGood

@@ -6,14 +6,15 @@ use Prim.Native.Nat.{ℕ, _≤_}
 use lib.ListN.{length}
 use Rattle.text.proofs.PuttingLaws.{Put}
 use Rattle.rules.specs.Replies.{Outcome}
+use Rattle.agent_replies.specs.Handling.{told}
 use Rattle.agent_replies.specs.declared.sending.Handled.{Handled}
 use Rattle.script_lines.specs.Forms.{stepIn, isBadForm}
-use Rattle.script_lines.specs.Doing.{done, told}
-use Rattle.script.specs.Printing.{printed}
+use Rattle.script_lines.specs.Doing.{done}
+use Rattle.script_text.specs.Printing.{printed}
 use Rattle.script.specs.Playing.{numberOf, after, shown}
 use Rattle.script_lines.specs.declared.forms.Form.{Form}
 use Rattle.script.specs.declared.playing.Player.{Player}
-use Rattle.script.specs.declared.printing.View.{View}
+use Rattle.script_text.specs.declared.printing.View.{View}
 use Rattle.script_lines.proofs.FormLaws.{step-bad}
 
 module _ (p : Player) (view : View) (form : Form) (bytes : List ℕ) (h : Handled) (reply : List ℕ) (n : ℕ) (b : Bool)

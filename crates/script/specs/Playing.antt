@@ -5,9 +5,9 @@ use Rattle.console.specs.Programs.{Program}
 use Rattle.rules.specs.PowerUp.{powerUp}
 use Rattle.script_lines.specs.Forms.{Step, isBad, lineOf}
 use Rattle.script_lines.specs.Doing.{done}
-use Rattle.script.specs.Printing.{headerOf, printed}
+use Rattle.script_text.specs.Printing.{headerOf, printed}
 use Rattle.script.specs.declared.playing.Player.{Player}
-use Rattle.script.specs.declared.printing.View.{View}
+use Rattle.script_text.specs.declared.printing.View.{View}
 
 -- power-up with MAC 1, IID 2 and VER 0, before the first line
 abbrev pub start : Player

@@ -1,7 +1,5 @@
-// Scripts played from power-up: what is printed for each line, and the loop over all of them.
+// Scripts played from power-up, line by line, and the loop over all of them.
 pub mod playing;
-mod printing;
 mod running;
 
-pub use printing::View;
 pub use running::run;

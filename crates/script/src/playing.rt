@@ -3,13 +3,10 @@ ghost use mathlib.Core.Path.{_≡_};
 ghost use Prim.Native.Nat.{_≤_};
 ghost use lib.ListN.{length};
 ghost use Rattle.text.specs.Putting.{putAt, placeAfter};
+ghost use Rattle.agent_replies.specs.Handling.{told};
 ghost use Rattle.script_lines.specs.Forms.{lineIn, stepIn};
-ghost use Rattle.script_lines.specs.Doing.{told};
-ghost use Rattle.script.specs.Printing.{printed};
+ghost use Rattle.script_text.specs.Printing.{printed};
 ghost use Rattle.script.specs.Playing.{start, after, shown};
-use crate::printing::View;
-use crate::printing::no_text;
-use crate::printing::put_line;
 use agent::power_up::power_up;
 use agent_replies::sending::Handled;
 use rules::Agent;
@@ -19,6 +16,9 @@ use script_lines::forms::Form;
 use script_lines::forms::is_bad;
 use script_lines::forms::no_bytes;
 use script_lines::forms::read_line;
+use script_text::printing::View;
+use script_text::printing::no_text;
+use script_text::printing::put_line;
 use text::putting::put_text;
 
 pub struct Player {

@@ -5,11 +5,11 @@ ghost use Rattle.console.specs.Answering.{Whole};
 ghost use Rattle.script.specs.Playing.{scripted};
 use crate::playing;
 use crate::playing::play_line;
-use crate::printing;
-use crate::printing::View;
 use console::blocks;
 use console::lines;
 use console::lines::Cursor;
+use script_text::printing;
+use script_text::printing::View;
 
 // The header, and the text of every line. It is handed on when the output is full; its end is still in the output on return.
 fn play_all(

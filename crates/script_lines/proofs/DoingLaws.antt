@@ -9,8 +9,9 @@ use Rattle.base.proofs.Fills.{left-turn, left-end}
 use Rattle.rules.specs.Calls.{tickCall, leftIn}
 use Rattle.rules.specs.Replies.{Outcome, outcome}
 use Rattle.rules.specs.declared.Agent.{Agent}
+use Rattle.agent_replies.specs.Handling.{told}
 use Rattle.agent_replies.specs.declared.sending.Handled.{Handled}
-use Rattle.script_lines.specs.Doing.{afterTicks, told}
+use Rattle.script_lines.specs.Doing.{afterTicks}
 
 -- ---- ticks
 pub ticks-turn : (n i : ℕ) (a b z : Agent) → i < n → b ≡ tickCall a .agent → afterTicks (n - i) a ≡ z → afterTicks (n - (i + 1)) b ≡ z

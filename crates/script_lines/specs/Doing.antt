@@ -1,12 +1,9 @@
 -- What a line does to the module. Assumes nothing.
-use mathlib.Core.List.{List}
 use Prim.Native.Nat.{ℕ, zero, suc}
-use lib.ListN.{take}
 use Rattle.rules.specs.Answers.{accepted}
 use Rattle.rules.specs.Calls.{leastRoom, tickCall, inputCall, frameCall}
 use Rattle.rules.specs.Replies.{Outcome, outcome}
 use Rattle.rules.specs.declared.Agent.{Agent}
-use Rattle.agent_replies.specs.declared.sending.Handled.{Handled}
 use Rattle.script_lines.specs.Forms.{Step, ticks, frame, inputs, bad}
 
 -- n ticks
@@ -20,8 +17,3 @@ done a (ticks n) = outcome accepted (afterTicks n a)
 done a (frame port body) = frameCall a port body leastRoom
 done a (inputs xs) = outcome accepted (inputCall a xs .agent)
 done a bad = outcome accepted a
-
--- ---- the steps of the code
--- what a call returned, together with the reply buffer
-abbrev pub told : Handled → List ℕ → Outcome
-told h reply = record { answer = h .answer; agent = h .agent; line = take (h .sent) reply }

@@ -2,7 +2,7 @@
 use mathlib.Core.Logic.{⊎-elim, inl, inr}
 use native.Mathlib.Omega.{arith}
 use Rattle.base.proofs.Interval.{fails}
-use Rattle.frame_reading.proofs.Unbuilt.{behind}
+use Rattle.frame_reading.proofs.Types.{behind}
 use Rattle.rules.specs.FrameCall.{served}
 use Rattle.agent.proofs.frame_call.served.Statement.{statement}
 use Rattle.agent.proofs.frame_call.served.Tie as tie

@@ -1,9 +1,7 @@
 -- `fields_out::add_fields` meets its contract. Assumes nothing.
-use mathlib.Core.Path.{_≡_, sym, ap, _∙_}
-use Prim.Native.Nat.{_≤_}
+use mathlib.Core.Path.{sym, ap, _∙_}
 use native.Mathlib.Omega.{arith}
 use borrow.Author.Needs.{needs}
-use lib.ListN.{length}
 use lib.Seq.{length-take-le}
 use Rattle.frame_words.specs.Texts.{put}
 use Rattle.cases.proofs.AnswerLaws.{front}

@@ -2,7 +2,7 @@
 use native.Mathlib.Omega.{arith}
 use borrow.Author.Needs.{needs}
 use Rattle.frame_reading.specs.Reading.{readTyp}
-use Rattle.frame_reading.proofs.Unbuilt.{behind, unbuilt}
+use Rattle.frame_reading.proofs.Types.{behind, unbuilt}
 use Rattle.frame_reading.proofs.reading.read_typ.Statement.{statement}
 use Rattle.frame_reading.proofs.reading.read_typ.Tie as tie
 

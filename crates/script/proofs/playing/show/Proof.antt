@@ -4,9 +4,9 @@ use Prim.Native.Nat.{_≤_}
 use native.Mathlib.Omega.{arith}
 use lib.ListN.{length}
 use lib.Seq.{length-take-le}
-use Rattle.script_lines.specs.Doing.{told}
-use Rattle.script.specs.Printing.{printed}
-use Rattle.script.proofs.PrintingLaws.{same-put, printed-length, wrote-front}
+use Rattle.agent_replies.specs.Handling.{told}
+use Rattle.script_text.specs.Printing.{printed}
+use Rattle.script_text.proofs.PrintingLaws.{same-put, printed-length, wrote-front}
 use borrow.Author.Needs.{needs}
 use Rattle.script.proofs.playing.show.Statement.{statement}
 use Rattle.script.proofs.playing.show.Tie as tie

@@ -1,0 +1,2 @@
+// The page of the grammar, which saturn-frame prints for an empty list.
+pub mod grammar;

@@ -1,0 +1,2 @@
+// What is printed for a line of a script.
+pub mod printing;
