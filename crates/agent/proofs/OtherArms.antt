@@ -5,14 +5,14 @@ use Prim.Native.Nat.{ℕ}
 use types.Run.{OneOf, miss}
 use denote.Enum.Declared.{tagOf}
 use Rattle.wire.specs.Body.{verdictNumber}
-use Rattle.wire.specs.declared.body.Body.{Body}
-use Rattle.wire.specs.declared.body.Verdict.{Verdict}
-use Rattle.wire.specs.declared.body.Verdict.the-variants as verdict
-use Rattle.wire.proofs.body.Verdict as verdict-type
+use Rattle.wire.specs.declared.Body.{Body}
+use Rattle.wire.specs.declared.Verdict.{Verdict}
+use Rattle.wire.specs.declared.Verdict.the-variants as verdict
+use Rattle.wire.proofs.Verdict as verdict-type
 use Rattle.frame_reading.specs.Reading.{readNumber}
-use Rattle.frame_forms.specs.declared.forms.Read.{Read}
-use Rattle.frame_forms.specs.declared.forms.Read.the-variants as read
-use Rattle.frame_forms.proofs.forms.Read as read-type
+use Rattle.frame_forms.specs.declared.Read.{Read}
+use Rattle.frame_forms.specs.declared.Read.the-variants as read
+use Rattle.frame_forms.proofs.Read as read-type
 use Rattle.rules.specs.FrameCall.{onRead, onVerdict}
 use Rattle.rules.specs.Marks.{lineMarked}
 use Rattle.rules.specs.Replies.{does}

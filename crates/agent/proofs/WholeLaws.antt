@@ -14,8 +14,8 @@ use Rattle.frame_kinds.specs.Kinds.{headOf, dataPlace, dataIn}
 use Rattle.frame_reading.specs.Reading.{readApp}
 use Rattle.frame_kinds.specs.declared.kinds.Frame.{Frame}
 use Rattle.frame_kinds.specs.declared.kinds.Frame.the-variants.{Sync, SafeRead, SafeWrite, PlainRead, PlainWrite, SafeResponse, PlainSyncResponse, PlainResponse, TidAssignment, SidAssignment, SidAssignment4, Acknowledgement, Invariants}
-use Rattle.frame_forms.specs.declared.forms.Read.{Read}
-use Rattle.frame_forms.specs.declared.forms.Read.the-variants.{Valid, Kind, Form, Check}
+use Rattle.frame_forms.specs.declared.Read.{Read}
+use Rattle.frame_forms.specs.declared.Read.the-variants.{Valid, Kind, Form, Check}
 use Rattle.frame_writing.proofs.Fits.{FittingFrame}
 use Rattle.frame_writing.proofs.Standing.{Stands, stands-fitting}
 use Rattle.frame_writing.proofs.ValidStands.{stands}

@@ -13,10 +13,10 @@ use lib.ListN.{length, take, drop, set, length-drop, length-set}
 use lib.Seq.{length-take-le}
 use Rattle.base.proofs.Choosing.{and-true}
 use Rattle.wire.specs.Body.{reservedAddr, fcsOf}
-use Rattle.wire.specs.Laying.{leftBy}
-use Rattle.wire.specs.declared.laying.Laid.{Laid}
-use Rattle.wire.specs.declared.laying.Laid.the-variants.{Sent}
-use Rattle.wire.proofs.LayingLaws.{line-most}
+use Rattle.laying.specs.Laying.{leftBy}
+use Rattle.laying.specs.declared.Laid.{Laid}
+use Rattle.laying.specs.declared.Laid.the-variants.{Sent}
+use Rattle.laying.proofs.LayingLaws.{line-most}
 use Rattle.frame_kinds.specs.Kinds.{dataLen, appOf}
 use Rattle.frame_forms.specs.Forms.{safeCom}
 use Rattle.frame_kinds.specs.Sized.{Sized}

@@ -7,8 +7,8 @@ use Rattle.frame_kinds.specs.declared.kinds.Frame.the-variants.{Sync, SafeRead,
 use Rattle.rules.specs.Calls.{AnswersFrame}
 use Rattle.rules.specs.Replies.{Outcome}
 use Rattle.rules.specs.declared.Agent.{Agent}
-use Rattle.wire.specs.declared.laying.Laid.{Laid}
-use Rattle.wire.specs.declared.laying.Laid.the-variants.{Sent, Reserved, Form, Room}
+use Rattle.laying.specs.declared.Laid.{Laid}
+use Rattle.laying.specs.declared.Laid.the-variants.{Sent, Reserved, Form, Room}
 use Rattle.agent_replies.specs.declared.sending.Handled.{Handled}
 use Rattle.agent_replies.specs.declared.sending.Part.{Part}
 

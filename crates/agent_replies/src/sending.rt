@@ -10,11 +10,11 @@ ghost use Rattle.agent_replies.specs.Handling.{Handles, lengthIn, partOf
 use agent_state::registers::CONF;
 use agent_state::registers::STATUT;
 use frame_kinds::kinds::Frame;
-use frame_writing::writing::write_frame;
+use frame_writing::write_frame;
+use laying::Laid;
 use rules::Agent;
 use rules::Deed;
 use rules::Reply;
-use wire::laying::Laid;
 
 // The answer, the agent afterwards, and how many bytes of the reply buffer are to be sent.
 pub struct Handled {

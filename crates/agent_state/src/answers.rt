@@ -1,5 +1,5 @@
-// Document 01, "Who causes which number": the answers by name. Numbers 1 to 4 and 9 come from `wire::body` and
-// `frame_reading::reading`.
+// Document 01, "Who causes which number": the answers by name. Numbers 1 to 4 and 9 come from `wire` and
+// `frame_reading`.
 pub const ACCEPTED: u8 = 0;
 
 pub const RESERVED: u8 = 5;

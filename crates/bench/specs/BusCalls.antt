@@ -3,7 +3,7 @@
 use mathlib.Core.List.{List, [], _∷_}
 use Prim.Native.Nat.{ℕ, zero, suc, _+_, _%_}
 use lib.ListN.{length}
-use Rattle.wire.specs.Laying.{bodyOf}
+use Rattle.laying.specs.Laying.{bodyOf}
 use Rattle.frame_kinds.specs.Kinds.{appOf}
 use Rattle.frame_kinds.specs.declared.kinds.Frame.{Frame}
 use Rattle.frame_kinds.specs.declared.kinds.Frame.the-variants.{Sync, SafeRead, SafeWrite, SidAssignment}

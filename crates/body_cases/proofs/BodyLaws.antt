@@ -9,9 +9,9 @@ use lib.Seq.{take-all}
 use Rattle.base.specs.Bytes.{numberAt}
 use Rattle.wire.specs.Answer.{Answer}
 use Rattle.wire.specs.Body.{verdictAnswer, verdictNumber, bodyAnswer}
-use Rattle.wire.specs.declared.body.Verdict.{Verdict}
-use Rattle.wire.specs.declared.body.Verdict.the-variants.{Valid, Length, Stuffing, Size, Check, Reserved}
-use Rattle.wire.specs.declared.body.Body.{Body}
+use Rattle.wire.specs.declared.Verdict.{Verdict}
+use Rattle.wire.specs.declared.Verdict.the-variants.{Valid, Length, Stuffing, Size, Check, Reserved}
+use Rattle.wire.specs.declared.Body.{Body}
 use Rattle.frame_words.specs.Texts.{noText, put, puts}
 use Rattle.frame_words.specs.declared.texts.Text.{Text}
 use Rattle.cases.specs.Cases.{Says}

@@ -8,7 +8,7 @@ use Rattle.base.specs.Choice.{choose}
 use Rattle.base.specs.Bytes.{numberAt}
 use Rattle.wire.specs.Answer.{Answer}
 use Rattle.wire.specs.Body.{answerToBody}
-use Rattle.wire.specs.Laying.{lineOf, laidOf}
+use Rattle.laying.specs.Laying.{lineOf, laidOf}
 use Rattle.cases.specs.Cases.{byOperation}
 use Rattle.cases.specs.Layings.{pattern, laidBytes}
 

@@ -11,18 +11,16 @@ use fields::byte_field;
 use fields::word_field;
 use frame_words::texts;
 use frame_words::texts::Text;
-use wire::body;
-use wire::laying;
 
 // The number and, with 0, the address and the application data.
 fn read(s: &[u8]) -> Text
     ensures { λ r. ⌜ Says r (readBytes (answerToBody (now (s .entry)))) ⌝ }
 {
-    let b = body::read_body(s);
+    let b = wire::read_body(s);
     let verdict = b.verdict;
     let bytes = b.bytes;
     let addr = b.addr;
-    let n = body::verdict_number(verdict);
+    let n = wire::verdict_number(verdict);
     if n != 0 {
         return texts::add(texts::no_text(), &[n]);
     }

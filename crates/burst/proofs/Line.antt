@@ -11,11 +11,11 @@ use Rattle.crc.specs.Crc.{crcOf}
 use Rattle.crc.specs.declared.Poly.the-variants.{Fcs}
 use Rattle.stuffing.specs.Stuffing.{stuff, unstuff}
 use Rattle.wire.specs.Body.{fcsOf, readBody}
-use Rattle.wire.specs.Laying.{bodyWith}
-use Rattle.wire.specs.declared.body.Verdict.the-variants.{Valid}
+use Rattle.laying.specs.Laying.{bodyWith}
+use Rattle.wire.specs.declared.Verdict.the-variants.{Valid}
 use Rattle.stuffing.proofs.StuffingBothWays.{unstuff-stuff}
-use Rattle.wire.proofs.LineBytes.{stuffed-bytes}
-use Rattle.wire.proofs.BodyBothWays.{read-then-laid}
+use Rattle.laying.proofs.LineBytes.{stuffed-bytes}
+use Rattle.laying.proofs.BodyBothWays.{read-then-laid}
 use Rattle.burst.specs.Promise.{Checked}
 use Rattle.burst.specs.OnTheLine.{OnTheLine, plain}
 use Rattle.burst.proofs.Both.{bus-bursts, bus-odd}

@@ -7,7 +7,7 @@ use lib.ListN.{length}
 use Rattle.base.specs.Bytes.{Bytes}
 use Rattle.stuffing.specs.Stuffing.{stuff}
 use Rattle.wire.specs.Body.{fcsOf, readBody}
-use Rattle.wire.specs.declared.body.Verdict.the-variants.{Valid}
+use Rattle.wire.specs.declared.Verdict.the-variants.{Valid}
 use Rattle.burst.specs.Damage.{Burst, flips}
 use Rattle.burst.specs.Promise.{longest}
 

@@ -9,8 +9,8 @@ use lib.Seq.{take-all, take-suc-set}
 use Rattle.base.specs.Bytes.{bytesOf}
 use Rattle.base.proofs.Numbers.{length-bytesOf}
 use Rattle.base.proofs.Fills.{left-turn, left-end}
-use Rattle.wire.specs.Laying.{laidAnswer, leftBy}
-use Rattle.wire.specs.declared.laying.Laid.{Laid}
+use Rattle.laying.specs.Laying.{laidAnswer, leftBy}
+use Rattle.laying.specs.declared.Laid.{Laid}
 use Rattle.frame_words.specs.Texts.{noText, puts}
 use Rattle.frame_words.specs.declared.texts.Text.{Text}
 use Rattle.cases.specs.Cases.{Says}

@@ -2,9 +2,9 @@
 use mathlib.Core.List.{List, [], _∷_, _++_}
 use Prim.Native.Nat.{ℕ, zero, suc, _+_, _%_}
 use Rattle.base.specs.Bytes.{bytesOf}
-use Rattle.wire.specs.Laying.{laidAnswer, leftBy}
-use Rattle.wire.specs.declared.laying.Laid.{Laid}
-use Rattle.wire.specs.declared.laying.Laid.the-variants.{Sent, Reserved, Form, Room}
+use Rattle.laying.specs.Laying.{laidAnswer, leftBy}
+use Rattle.laying.specs.declared.Laid.{Laid}
+use Rattle.laying.specs.declared.Laid.the-variants.{Sent, Reserved, Form, Room}
 
 -- byte i is i modulo 251: n bytes, from byte i on
 unfoldable pub patternFrom : ℕ → ℕ → List ℕ

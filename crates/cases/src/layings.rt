@@ -3,14 +3,13 @@
 ghost use mathlib.Core.Path.{_≡_};
 ghost use mathlib.Core.List.{[], _∷_};
 ghost use Rattle.base.specs.Bytes.{bytesOf};
-ghost use Rattle.wire.specs.Laying.{laidAnswer};
+ghost use Rattle.laying.specs.Laying.{laidAnswer};
 ghost use Rattle.frame_words.specs.Texts.{noText, put, puts};
 ghost use Rattle.cases.specs.Layings.{sentLen};
 ghost use Rattle.cases.specs.Layings.{pattern as Layings·pattern};
 use frame_words::texts;
 use frame_words::texts::Text;
-use wire::laying;
-use wire::laying::Laid;
+use laying::Laid;
 
 // The longest buffer that a case may ask for.
 pub const MOST: usize = 600;

@@ -7,12 +7,12 @@ use borrow.Author.Tests.{ltb-true}
 use lib.ListN.{length}
 use Rattle.base.proofs.Choosing.{by-test, never, choose-true, and-left, and-right}
 use Rattle.wire.specs.Body.{readBody}
-use Rattle.wire.specs.declared.body.Verdict.the-variants as verdict
+use Rattle.wire.specs.declared.Verdict.the-variants as verdict
 use Rattle.frame_kinds.specs.Kinds.{dataIn}
 use Rattle.frame_writing.specs.Writing.{is24, fieldsFit, fits}
 use Rattle.frame_kinds.specs.declared.kinds.Frame.{Frame}
 use Rattle.frame_kinds.specs.declared.kinds.Frame.the-variants.{SidAssignment}
-use Rattle.frame_forms.specs.declared.forms.Read.the-variants.{Valid}
+use Rattle.frame_forms.specs.declared.Read.the-variants.{Valid}
 use Rattle.frame_reading.proofs.Receiving.{appIn}
 use Rattle.rules.specs.Calls.{tickCall, Call, tick, input, frame, act}
 use Rattle.rules.specs.Good.{Good, BytesCall}

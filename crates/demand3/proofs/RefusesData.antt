@@ -12,7 +12,7 @@ use Rattle.base.specs.Bytes.{bytesOf}
 use Rattle.crc.specs.Crc.{crcOf}
 use Rattle.crc.specs.declared.Poly.the-variants.{Safety}
 use Rattle.fields.specs.Fields.{laid}
-use Rattle.wire.specs.Laying.{bodyOf, bodyWith}
+use Rattle.laying.specs.Laying.{bodyOf, bodyWith}
 use Rattle.stuffing.specs.Stuffing.{stuff, stuffByte}
 use Rattle.wire.specs.Body.{fcsOf}
 use Rattle.stuffing.proofs.StuffingLaws.{stuff-least}

@@ -5,7 +5,7 @@ use mathlib.Core.Option.{some}
 use mathlib.Core.Path.{_≡_}
 use Prim.Native.Nat.{ℕ, _+_, _-_, _≤_, _<_}
 use lib.ListN.{length, getD}
-use Rattle.wire.specs.Laying.{bodyOf}
+use Rattle.laying.specs.Laying.{bodyOf}
 use Rattle.frame_kinds.specs.Kinds.{appOf}
 use Rattle.frame_kinds.specs.declared.kinds.Frame.the-variants.{SafeWrite}
 use Rattle.rules.specs.Calls.{Call, frame}

@@ -10,9 +10,9 @@ use Rattle.frame_kinds.specs.Kinds.{dataIn}
 use Rattle.frame_reading.specs.Reading.{readFrame}
 use Rattle.frame_kinds.specs.declared.kinds.Frame.{Frame}
 use Rattle.frame_kinds.specs.declared.kinds.Frame.the-variants.{Sync, SafeRead, SafeWrite, PlainRead, PlainWrite, SafeResponse, PlainSyncResponse, PlainResponse, TidAssignment, SidAssignment, SidAssignment4, Acknowledgement, Invariants}
-use Rattle.frame_reading.specs.declared.reading.Reading.{Reading}
-use Rattle.frame_reading.specs.declared.reading.Reading.the-variants as reading
-use Rattle.frame_reading.specs.declared.reading.Received.{Received}
+use Rattle.frame_reading.specs.declared.Reading.{Reading}
+use Rattle.frame_reading.specs.declared.Reading.the-variants as reading
+use Rattle.frame_reading.specs.declared.Received.{Received}
 use Rattle.rules.specs.Calls.{Call, tick, input, frame}
 use Rattle.rules.specs.Requests.{Ask, reads, writes}
 use Rattle.demand3.specs.Numbers.{isAccepted, outsideRules, writesRelease, writesWithinOutputs}

@@ -7,7 +7,7 @@ use mathlib.Core.Path.{_≡_}
 use Prim.Native.Nat.{ℕ, _<_}
 use Rattle.frame_reading.specs.Reading.{readFrame}
 use Rattle.frame_kinds.specs.declared.kinds.Frame.the-variants.{SafeRead, SafeWrite}
-use Rattle.frame_reading.specs.declared.reading.Reading.the-variants.{Valid}
+use Rattle.frame_reading.specs.declared.Reading.the-variants.{Valid}
 use Rattle.rules.specs.Calls.{Call, frame}
 use Rattle.rules.specs.PowerUp.{powerUp}
 use Rattle.demand3.specs.Claim.{Everywhere, BytesCalls}

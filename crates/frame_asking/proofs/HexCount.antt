@@ -1,20 +1,17 @@
--- Bytes that were read from hex digits: half as many as the characters, and what the buffer then holds. Assumes nothing.
-use mathlib.Core.Path.{_≡_, refl, sym, ap, _∙_}
+-- Bytes that were read from hex digits: half as many as the characters. Assumes nothing.
+use mathlib.Core.Path.{_≡_, refl, ap}
 use mathlib.Core.Bool.{Bool, true, false}
-use mathlib.Core.List.{List, [], _∷_, _++_}
+use mathlib.Core.List.{List}
 use mathlib.Core.Option.{Option, none, some}
-use Prim.Native.Nat.{ℕ, suc, _+_, _*_, _≤_, _<_}
+use Prim.Native.Nat.{ℕ, _+_, _*_, _≤_, _<_}
 use native.Mathlib.Omega.{arith}
 use borrow.Author.Tests.{ltb-true}
 use lib.Dec.{ltb}
-use lib.ListN.{length, take, drop, length-drop}
-use lib.Seq.{take-at}
+use lib.ListN.{length, drop, length-drop}
 use Rattle.base.specs.Choice.{choose}
 use Rattle.base.proofs.Choosing.{absurdly, by-test}
-use Rattle.text.specs.Hex.{pairOf, paired, hexPairs, hexOf, hexLeft}
-use Rattle.text.specs.declared.hex.Pair.{Pair}
-use Rattle.text.specs.declared.hex.Pair.the-variants.{Byte, Other}
-use Rattle.text.specs.declared.hex.Hex.the-variants.{Bytes, NoRoom}
+use Rattle.text.specs.Hex.{hexPairs}
+use Rattle.text.proofs.HexLaws.{pairs-length}
 use Rattle.frame_words.specs.Chars.{chars}
 use Rattle.frame_words.specs.Words.{wordAt, starts}
 use Rattle.frame_fields.specs.Rows.{dataWord, dataAt}
@@ -25,16 +22,12 @@ abbrev pub Half : ℕ → Option (List ℕ) → Type 0
 Half n none = Unit
 Half n (some bs) = length bs * 2 ≤ n
 
-pair-half : (n : ℕ) (p : Pair) (o : Option (List ℕ)) → Half n o → Half (suc (suc n)) (paired p o)
-pair-half n (Byte b) none h = tt
-pair-half n (Byte b) (some bs) h = omega arith
-pair-half n Other o h = tt
-
 pub pairs-half : (s : List ℕ) → Half (length s) (hexPairs s)
-unfolding hexPairs
-pairs-half [] = omega arith
-pairs-half (a ∷ []) = tt
-pairs-half (a ∷ b ∷ cs) = pair-half (length cs) (pairOf a b) (hexPairs cs) (pairs-half cs)
+pairs-half s = by (hexPairs s) refl
+  where
+    by : (o : Option (List ℕ)) → hexPairs s ≡ o → Half (length s) o
+    by none e = tt
+    by (some bs) e = omega (arith, pairs-length s bs e)
 
 half-more : (m n : ℕ) (o : Option (List ℕ)) → m ≤ n → Half m o → Half n o
 half-more m n none h k = tt
@@ -54,24 +47,11 @@ data-half s at =
     (λ e. tt)
 
 -- so 600 bytes are room for 1,200 characters
-pub room-never : {P : Type 0} (n : ℕ) (o : Option (List ℕ)) → n ≤ 1200 → Half n o → NoRoom ≡ hexOf 600 o → P
-room-never n none h k e = absurdly (cc)
-room-never n (some bs) h k e = by (ltb 600 (length bs)) refl e
-  where
-    by : {P : Type 0} (t : Bool) → ltb 600 (length bs) ≡ t → NoRoom ≡ choose t NoRoom (Bytes (length bs)) → P
-    by true p e = absurd (omega (arith, ltb-true 600 (length bs) p))
-    by false p e = absurdly (cc)
-
--- what was read
-pub bytes-are : (o : Option (List ℕ)) (buf out : List ℕ) (n : ℕ) → length buf ≡ 600 → Bytes n ≡ hexOf 600 o → out ≡ hexLeft o buf → o ≡ some (take n out)
-bytes-are none buf out n l e p = absurdly (cc)
-bytes-are (some bs) buf out n l e p = by (ltb 600 (length bs)) e (p ∙ rw l)
-  where
-    by : (t : Bool) → Bytes n ≡ choose t NoRoom (Bytes (length bs)) → out ≡ choose t buf (bs ++ drop (length bs) buf) → some bs ≡ some (take n out)
-    by true e p = absurdly (cc)
-    by false e p =
-        let q : n ≡ length bs = cc in
-        rw (p, q) (ap some (sym (take-at bs (drop (length bs) buf) (length bs) refl)))
+pub half-room : (n : ℕ) (o : Option (List ℕ)) → n ≤ 1200 → Half n o → (bs : List ℕ) → o ≡ some bs → length bs ≤ 600
+half-room n none h k bs e = absurdly (cc)
+half-room n (some cs) h k bs e =
+    let q : cs ≡ bs = cc in
+    omega (arith, ap length q)
 
 -- data are read only after a space
 pub data-inside : (s : List ℕ) (at : ℕ) (xs : List ℕ) → dataAt s at ≡ some xs → at < length s

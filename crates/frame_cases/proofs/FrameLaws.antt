@@ -10,20 +10,19 @@ use borrow.Author.Tests.{lt-ltb, le-ltb, ltb-false}
 use lib.Dec.{ltb}
 use lib.ListN.{length, take, drop, length-take, length-drop, length-append}
 use lib.Seq.{take-all}
-use Rattle.base.specs.Choice.{choose}
-use Rattle.base.specs.Bytes.{bytesOf, numberAt}
+use Rattle.base.specs.Bytes.{numberAt}
 use Rattle.base.proofs.Choosing.{or-right-false}
 use Rattle.fields.specs.Fields.{laid}
 use Rattle.fields.proofs.Tables.{length-laid}
 use Rattle.wire.specs.Answer.{Answer}
-use Rattle.frame_kinds.specs.Kinds.{tailOf, isSafe, dataLen, dataPlace, dataIn}
+use Rattle.frame_kinds.specs.Kinds.{tailOf, dataLen, dataStart, dataIn}
+use Rattle.frame_kinds.proofs.Parts.{data-at}
 use Rattle.frame_reading.specs.Reading.{readingAnswer, readingNumber, receivedAnswer}
 use Rattle.frame_kinds.specs.declared.kinds.Frame.{Frame}
-use Rattle.frame_kinds.specs.declared.kinds.Frame.the-variants.{Sync, SafeRead, SafeWrite, PlainRead, PlainWrite, SafeResponse, PlainSyncResponse, PlainResponse, TidAssignment, SidAssignment, SidAssignment4, Acknowledgement, Invariants}
-use Rattle.frame_reading.specs.declared.reading.Reading.{Reading}
-use Rattle.frame_reading.specs.declared.reading.Reading.the-variants as reading
-use Rattle.frame_reading.specs.declared.reading.Received.{Received}
-use Rattle.frame_reading.proofs.reading.Reading as reading-type
+use Rattle.frame_reading.specs.declared.Reading.{Reading}
+use Rattle.frame_reading.specs.declared.Reading.the-variants as reading
+use Rattle.frame_reading.specs.declared.Received.{Received}
+use Rattle.frame_reading.proofs.Reading as reading-type
 use Rattle.frame_words.specs.Texts.{noText, put, puts}
 use Rattle.frame_words.specs.declared.texts.Text.{Text}
 use Rattle.cases.specs.Cases.{Says}
@@ -48,23 +47,6 @@ refused reading.Kind s k = refl
 refused reading.Form s k = refl
 refused reading.Check s k = refl
 
--- ---- where the data are
-place : (f : Frame) (s : List ℕ) → take (dataLen f) (drop (choose (isSafe f) 12 5) s) ≡ dataIn f s
-unfolding dataPlace laid bytesOf
-place (Sync src cyc) s = refl
-place (SafeRead dest src cyc seq datl add) s = refl
-place (SafeWrite dest src cyc seq datl add) s = refl
-place (PlainRead src datl add) s = refl
-place (PlainWrite src datl add) s = refl
-place (SafeResponse dest src cyc seq «com» datl add stat) s = refl
-place (PlainSyncResponse src datl add stat) s = refl
-place (PlainResponse src «com» datl add) s = refl
-place (TidAssignment src iid tid) s = refl
-place (SidAssignment src sec mac sid) s = refl
-place (SidAssignment4 src sec mac sid sid2 src2) s = refl
-place (Acknowledgement src dst sec mac) s = refl
-place (Invariants dest src cyc seq config logic) s = refl
-
 module _ (r : Received) (o : Answer (ℕ × Frame × List ℕ)) (e : receivedAnswer r ≡ o) (n : ℕ) (p : n ≡ readingNumber (r .reading)) (t : Text) where
   pub read-refused : OneOf Refusals (tagOf reading-type.the-type (r .reading)) → t ≡ put noText (n ∷ []) → Says t (readBytes o)
   read-refused k q =
@@ -74,20 +56,20 @@ module _ (r : Received) (o : Answer (ℕ × Frame × List ℕ)) (e : receivedAns
   -- a frame: its application data are the first k bytes
   module _ (k : ℕ) (l : length (r .bytes) ≡ 272) (c : take k (r .bytes) ≡ take (r .len) (r .bytes)) (a : ℕ) (f : Frame) (v : r .reading ≡ reading.Valid a f) where
     abbrev taken : List ℕ
-    taken = take (dataLen f) (drop (choose (isSafe f) 12 5) (take k (r .bytes)))
+    taken = take (dataLen f) (drop (dataStart f) (take k (r .bytes)))
 
     pub read-valid : t ≡ puts noText ((n ∷ a ∷ []) ∷ (rowOf f .0 ∷ []) ∷ laid (rowOf f .1) ∷ laid (tailOf f) ∷ taken ∷ []) → Says t (readBytes o)
     read-valid q =
         let xs : List ℕ = taken in
         let g : List ℕ = laid (rowOf f .1) in
         let h : List ℕ = laid (tailOf f) in
-        let z : xs ≡ dataIn f (take (r .len) (r .bytes)) = place f (take k (r .bytes)) ∙ ap (dataIn f) c in
+        let z : xs ≡ dataIn f (take (r .len) (r .bytes)) = data-at f (take k (r .bytes)) ∙ ap (dataIn f) c in
         let m : n ≡ 0 = p ∙ ap readingNumber v in
         let w : n ∷ a ∷ rowOf f .0 ∷ (g ++ (h ++ xs)) ≡ readBytes o =
         ap₂ (λ (i : ℕ) (s : List ℕ). i ∷ a ∷ rowOf f .0 ∷ (g ++ (h ++ s))) m z
         ∙ ap (λ (x : Reading). readBytes (readingAnswer x (take (r .len) (r .bytes)))) (sym v) ∙ ap readBytes e in
         let d : length xs ≤ 272 =
-        omega (arith, length-take (dataLen f) (drop (choose (isSafe f) 12 5) (take k (r .bytes))), length-drop (choose (isSafe f) 12 5) (take k (r .bytes)), length-take k (r .bytes)) in
+        omega (arith, length-take (dataLen f) (drop (dataStart f) (take k (r .bytes))), length-drop (dataStart f) (take k (r .bytes)), length-take k (r .bytes)) in
         says-pieces ((n ∷ a ∷ []) ∷ (rowOf f .0 ∷ []) ∷ g ∷ h ∷ xs ∷ []) (readBytes o) t q
         (ap (λ (s : List ℕ). n ∷ a ∷ rowOf f .0 ∷ (g ++ (h ++ s))) (append-nil xs) ∙ w)
         (omega (arith, ap length w, length-append g (h ++ xs), length-append h xs, length-laid (rowOf f .1), length-laid (tailOf f), rows f .short))

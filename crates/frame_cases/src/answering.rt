@@ -1,9 +1,6 @@
 // A frame that is read from a body, or written from its fields, by the operation.
-ghost use mathlib.Core.Path.{_≡_};
 ghost use Prim.Native.Nat.{_≤_};
 ghost use lib.ListN.{length};
-ghost use Rattle.base.specs.Choice.{choose};
-ghost use Rattle.frame_kinds.specs.Kinds.{isSafe};
 ghost use Rattle.frame_reading.specs.Reading.{answerToFrame};
 ghost use Rattle.cases.specs.Cases.{answerTo, caseIn, Says};
 ghost use Rattle.frame_cases.specs.Answers.{readBytes, writtenInto, writeAnswer, frameAnswers};
@@ -17,30 +14,18 @@ use fields::data_field;
 use fields::word_field;
 use frame_kinds::kinds;
 use frame_kinds::kinds::Frame;
-use frame_reading::reading;
-use frame_reading::reading::Reading;
+use frame_reading::Reading;
 use frame_words::texts;
 use frame_words::texts::Text;
-use frame_writing::writing;
-
-// Where the data bytes of a frame begin in its application data.
-fn data_place(f: Frame) -> usize
-    ensures { λ r. ⌜ r ≡ choose (isSafe f) 12 5 ⌝ }
-{
-    if kinds::is_safe(f) {
-        return 12;
-    }
-    5
-}
 
 // The number and, with 0, the address, the kind, its fields and the data.
 fn read(s: &[u8]) -> Text
     ensures { λ r. ⌜ Says r (readBytes (answerToFrame (now (s .entry)))) ⌝ }
 {
-    let r = reading::read_frame(s);
+    let r = frame_reading::read_frame(s);
     let reading = r.reading;
     let bytes = r.bytes;
-    let n = reading::reading_number(reading);
+    let n = frame_reading::reading_number(reading);
     let k = blocks::least(bytes.len(), r.len);
     let Reading::Valid(addr, f) = reading else {
         return texts::add(texts::no_text(), &[n]);
@@ -48,7 +33,7 @@ fn read(s: &[u8]) -> Text
     let t = fields_out::add_frame(texts::add(texts::no_text(), &[n, addr]), f);
     texts::add(
         t,
-        data_field(&bytes[..k], data_place(f), kinds::data_len(f)),
+        data_field(&bytes[..k], kinds::data_place(f), kinds::data_len(f)),
     )
 }
 
@@ -56,7 +41,7 @@ fn write_into(buf: &mut [u8], addr: u8, f: Frame, data: &[u8]) -> Text
     requires { ⌜ length (now buf) ≤ 600 ⌝ }
     ensures { λ r. ⌜ Says r (writtenInto (now (buf .entry)) addr f (now («data» .entry))) ⌝ }
 {
-    let laid = writing::write_frame(buf, addr, f, data);
+    let laid = frame_writing::write_frame(buf, addr, f, data);
     layings::laid_answer(laid, buf)
 }
 

@@ -8,8 +8,8 @@ use lib.Dec.{eqb}
 use Rattle.base.specs.Choice.{choose}
 use Rattle.base.proofs.Choosing.{absurdly}
 use Rattle.frame_forms.specs.Forms.{safeOk, safeRead, plainRead}
-use Rattle.frame_forms.specs.declared.forms.Read.{Read}
-use Rattle.frame_forms.specs.declared.forms.Read.the-variants.{Valid, Kind, Form, Check}
+use Rattle.frame_forms.specs.declared.Read.{Read}
+use Rattle.frame_forms.specs.declared.Read.the-variants.{Valid, Kind, Form, Check}
 use Rattle.frame_kinds.specs.declared.kinds.Frame.{Frame}
 
 -- ---- when a frame is read

@@ -14,8 +14,9 @@ use Rattle.crc.specs.Crc.{crcOf}
 use Rattle.crc.specs.declared.Poly.the-variants.{Safety}
 use Rattle.fields.specs.Fields.{laid, fieldsAt, widths, total, Fitting}
 use Rattle.fields.proofs.Tables.{length-laid, read-back, read-back-at}
-use Rattle.frame_kinds.specs.Kinds.{headOf, tailOf, isSafe, dataLen, dataPlace, dataIn, sealed, appOf}
+use Rattle.frame_kinds.specs.Kinds.{headOf, tailOf, isSafe, dataLen, dataPlace, dataStart, dataIn, sealed, appOf}
 use Rattle.frame_kinds.specs.declared.kinds.Frame.{Frame}
+use Rattle.frame_kinds.specs.declared.kinds.Frame.the-variants.{Sync, SafeRead, SafeWrite, PlainRead, PlainWrite, SafeResponse, PlainSyncResponse, PlainResponse, TidAssignment, SidAssignment, SidAssignment4, Acknowledgement, Invariants}
 
 -- what stands before the safety CRC, and the CRC of a safe frame
 abbrev pub plainApp : Frame → List ℕ → List ℕ
@@ -76,3 +77,20 @@ module _ (f : Frame) (xs : List ℕ) where
       ap (λ (s : List ℕ). take (dataLen f) (drop (length (laid (headOf f))) s)) app-parts
       ∙ ap (take (dataLen f)) (drop-append-seam (laid (headOf f)) (xs ++ (laid (tailOf f) ++ end)))
       ∙ take-at xs (laid (tailOf f) ++ end) (dataLen f) e
+
+-- where the data begin
+pub data-at : (f : Frame) (s : List ℕ) → take (dataLen f) (drop (dataStart f) s) ≡ dataIn f s
+unfolding dataPlace laid bytesOf
+data-at (Sync src cyc) s = refl
+data-at (SafeRead dest src cyc seq datl add) s = refl
+data-at (SafeWrite dest src cyc seq datl add) s = refl
+data-at (PlainRead src datl add) s = refl
+data-at (PlainWrite src datl add) s = refl
+data-at (SafeResponse dest src cyc seq «com» datl add stat) s = refl
+data-at (PlainSyncResponse src datl add stat) s = refl
+data-at (PlainResponse src «com» datl add) s = refl
+data-at (TidAssignment src iid tid) s = refl
+data-at (SidAssignment src sec mac sid) s = refl
+data-at (SidAssignment4 src sec mac sid sid2 src2) s = refl
+data-at (Acknowledgement src dst sec mac) s = refl
+data-at (Invariants dest src cyc seq config logic) s = refl

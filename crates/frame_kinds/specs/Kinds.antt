@@ -95,6 +95,10 @@ dataLen (Invariants dest src cyc seq config logic) = 0
 unfoldable pub dataPlace : Frame → ℕ
 dataPlace f = length (laid (headOf f))
 
+-- the same for a frame that has data, by whether it is safe
+abbrev pub dataStart : Frame → ℕ
+dataStart f = choose (isSafe f) 12 5
+
 -- the data bytes of a frame in its application data
 abbrev pub dataIn : Frame → List ℕ → List ℕ
 dataIn f s = take (dataLen f) (drop (dataPlace f) s)

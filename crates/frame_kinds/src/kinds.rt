@@ -1,7 +1,8 @@
 // The kinds of frames and their fields, as in tables 4 to 12 of document 000 and in document 01.
 ghost use mathlib.Core.Path.{_≡_};
 ghost use mathlib.Core.List.{[], _∷_};
-ghost use Rattle.frame_kinds.specs.Kinds.{headOf, tailOf, isSafe, dataLen};
+ghost use Prim.Native.Nat.{_≤_};
+ghost use Rattle.frame_kinds.specs.Kinds.{headOf, tailOf, isSafe, dataLen, dataStart};
 ghost use Rattle.frame_kinds.specs.Holding.{heldAs};
 
 // Up to eight fields: their widths in bytes, their numbers, and how many there are.
@@ -367,4 +368,14 @@ pub fn data_len(f: Frame) -> usize
         Frame::Acknowledgement { .. } => 0,
         Frame::Invariants { .. } => 0,
     }
+}
+
+// Where they begin in its application data, if it has any.
+pub fn data_place(f: Frame) -> usize
+    ensures { λ r. ⌜ (r ≡ dataStart f) × (r ≤ 12) ⌝ }
+{
+    if is_safe(f) {
+        return 12;
+    }
+    5
 }

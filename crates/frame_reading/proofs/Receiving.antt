@@ -6,14 +6,14 @@ use mathlib.Core.Option.{some}
 use lib.ListN.{take}
 use Rattle.wire.specs.Answer.{Answer, andThen}
 use Rattle.wire.specs.Body.{verdictAnswer, readBody}
-use Rattle.wire.specs.declared.body.Body.{Body}
-use Rattle.wire.specs.declared.body.Verdict.{Verdict}
-use Rattle.wire.specs.declared.body.Verdict.the-variants as verdict
+use Rattle.wire.specs.declared.Body.{Body}
+use Rattle.wire.specs.declared.Verdict.{Verdict}
+use Rattle.wire.specs.declared.Verdict.the-variants as verdict
 use Rattle.frame_kinds.specs.Kinds.{dataIn}
 use Rattle.frame_reading.specs.Reading.{readApp, readAnswer, answerToApp, receivedApp, byVerdict, receivedBody, readFrame, receivedAnswer, answerToFrame}
-use Rattle.frame_forms.specs.declared.forms.Read.{Read}
-use Rattle.frame_forms.specs.declared.forms.Read.the-variants.{Valid, Kind, Form, Check}
-use Rattle.frame_reading.specs.declared.reading.Reading.the-variants as reading
+use Rattle.frame_forms.specs.declared.Read.{Read}
+use Rattle.frame_forms.specs.declared.Read.the-variants.{Valid, Kind, Form, Check}
+use Rattle.frame_reading.specs.declared.Reading.the-variants as reading
 use Rattle.frame_kinds.specs.declared.kinds.Frame.{Frame}
 
 -- the application data of a body

@@ -9,8 +9,8 @@ use lib.Dec.{T}
 use Rattle.base.specs.Bytes.{numberAt}
 use Rattle.base.proofs.Interval.{allFrom, at}
 use Rattle.frame_reading.specs.Reading.{readTyp, readApp}
-use Rattle.frame_forms.specs.declared.forms.Read.{Read}
-use Rattle.frame_forms.specs.declared.forms.Read.the-variants.{Valid, Kind, Form, Check}
+use Rattle.frame_forms.specs.declared.Read.{Read}
+use Rattle.frame_forms.specs.declared.Read.the-variants.{Valid, Kind, Form, Check}
 use Rattle.frame_kinds.specs.declared.kinds.Frame.{Frame}
 
 -- the TYP byte leads to the reader of the kind

@@ -9,17 +9,17 @@ use Rattle.base.specs.Choice.{choose}
 use Rattle.base.specs.Bytes.{numberAt}
 use Rattle.wire.specs.Answer.{Answer, andThen}
 use Rattle.wire.specs.Body.{readBody, answerToBody}
-use Rattle.wire.specs.declared.body.Body.{Body}
-use Rattle.wire.specs.declared.body.Verdict.{Verdict}
-use Rattle.wire.specs.declared.body.Verdict.the-variants as verdict
+use Rattle.wire.specs.declared.Body.{Body}
+use Rattle.wire.specs.declared.Verdict.{Verdict}
+use Rattle.wire.specs.declared.Verdict.the-variants as verdict
 use Rattle.frame_kinds.specs.Kinds.{dataIn}
 use Rattle.frame_kinds.specs.declared.kinds.Frame.{Frame}
 use Rattle.frame_forms.specs.Forms.{readSync, readSafeRequest, readPlainRequest, readSafeResponse, readPlainResponse, readTidAssignment, readSidAssignment, readAcknowledgement, readInvariants}
-use Rattle.frame_forms.specs.declared.forms.Read.{Read}
-use Rattle.frame_forms.specs.declared.forms.Read.the-variants.{Valid, Kind, Form, Check}
-use Rattle.frame_reading.specs.declared.reading.Reading.{Reading}
-use Rattle.frame_reading.specs.declared.reading.Reading.the-variants as reading
-use Rattle.frame_reading.specs.declared.reading.Received.{Received}
+use Rattle.frame_forms.specs.declared.Read.{Read}
+use Rattle.frame_forms.specs.declared.Read.the-variants.{Valid, Kind, Form, Check}
+use Rattle.frame_reading.specs.declared.Reading.{Reading}
+use Rattle.frame_reading.specs.declared.Reading.the-variants as reading
+use Rattle.frame_reading.specs.declared.Received.{Received}
 
 -- table 3: the TYP byte decides; 7 for a TYP that is not built
 unfoldable pub readTyp : ℕ → ℕ → List ℕ → Read

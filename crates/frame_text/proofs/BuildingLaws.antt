@@ -7,10 +7,10 @@ use lib.ListN.{length, take, drop, length-append, length-drop}
 use lib.Seq.{take-append-le, drop-append-le}
 use Rattle.text.specs.Putting.{hexText}
 use Rattle.wire.specs.Body.{fcsOf}
-use Rattle.wire.specs.Laying.{bodyOf, leftBy}
-use Rattle.wire.specs.declared.laying.Laid.{Laid}
-use Rattle.wire.specs.declared.laying.Laid.the-variants.{Sent}
-use Rattle.wire.proofs.LayingLaws.{line-least, body-between}
+use Rattle.laying.specs.Laying.{bodyOf, leftBy}
+use Rattle.laying.specs.declared.Laid.{Laid}
+use Rattle.laying.specs.declared.Laid.the-variants.{Sent}
+use Rattle.laying.proofs.LayingLaws.{line-least, body-between}
 use Rattle.frame_kinds.specs.Kinds.{appOf}
 use Rattle.frame_writing.specs.Writing.{frameLine, writtenOf}
 use Rattle.frame_kinds.specs.declared.kinds.Frame.{Frame}

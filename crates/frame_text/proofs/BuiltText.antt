@@ -8,8 +8,8 @@ use lib.ListN.{length, length-append}
 use Rattle.text.specs.Putting.{hexText}
 use Rattle.text.proofs.PuttingLaws.{text-length}
 use Rattle.wire.specs.Body.{reservedAddr, fcsOf}
-use Rattle.wire.specs.Laying.{bodyOf}
-use Rattle.wire.proofs.LayingLaws.{line-most, line-length}
+use Rattle.laying.specs.Laying.{bodyOf}
+use Rattle.laying.proofs.LayingLaws.{line-most, line-length}
 use Rattle.frame_kinds.specs.Kinds.{appOf}
 use Rattle.frame_kinds.specs.Sized.{Sized}
 use Rattle.frame_writing.specs.Writing.{fits, frameLine}

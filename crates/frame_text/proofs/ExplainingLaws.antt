@@ -14,18 +14,18 @@ use Rattle.base.proofs.Choosing.{and-left}
 use Rattle.base.proofs.Numbers.{length-bytesOf}
 use Rattle.base.proofs.Sets.{sets-front}
 use Rattle.text.specs.Putting.{hexText}
-use Rattle.frame_kinds.specs.Kinds.{dataLen}
+use Rattle.frame_kinds.specs.Kinds.{dataLen, dataIn}
 use Rattle.frame_kinds.specs.Sized.{Sized}
 use Rattle.frame_kinds.specs.declared.kinds.Frame.{Frame}
 use Rattle.frame_kinds.specs.declared.kinds.Frame.the-variants.{Sync, SafeRead, SafeWrite, PlainRead, PlainWrite, SafeResponse, PlainSyncResponse, PlainResponse, TidAssignment, SidAssignment, SidAssignment4, Acknowledgement, Invariants}
 use Rattle.frame_reading.specs.Reading.{readFrame}
-use Rattle.frame_reading.specs.declared.reading.Received.{Received}
+use Rattle.frame_reading.specs.declared.Received.{Received}
 use Rattle.frame_words.specs.Chars.{chars}
 use Rattle.frame_words.specs.Words.{wordAt}
 use Rattle.frame_words.specs.Table.{fieldsFrom, fieldsOf, hasData, kindWord}
 use Rattle.frame_words.specs.Texts.{put, puts}
 use Rattle.frame_fields.specs.Numbers.{kindOf, numbersOf}
-use Rattle.frame_text.specs.Explained.{putField, putFields, dataOf, frameText, byReading, readText, isFlagged, explainedText}
+use Rattle.frame_text.specs.Explained.{putField, putFields, frameText, byReading, readText, isFlagged, explainedText}
 use Rattle.frame_words.specs.declared.texts.Text.{Text}
 use Rattle.frame_words.proofs.FormLaws.{fields-turn, fields-end}
 
@@ -49,7 +49,7 @@ module _ (t : Text) (a : ℕ) (f : Frame) (bytes : List ℕ) where
   abbrev pub withoutData : Text
   withoutData = putFields (fieldsOf (kindOf f)) (numbersOf a f) 0 (put t (kindWord (kindOf f)))
 
-  pub frame-data : hasData (kindOf f) ≡ true → puts withoutData (chars " data=" ∷ hexText (dataOf f bytes) ∷ []) ≡ frameText t a f bytes
+  pub frame-data : hasData (kindOf f) ≡ true → puts withoutData (chars " data=" ∷ hexText (dataIn f bytes) ∷ []) ≡ frameText t a f bytes
   unfolding frameText
   frame-data e = rw e
 

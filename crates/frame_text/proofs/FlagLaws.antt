@@ -10,10 +10,10 @@ use lib.ListN.{length, getD}
 use Rattle.base.specs.Bytes.{Bytes}
 use Rattle.base.proofs.Choosing.{never, and-left, and-right}
 use Rattle.wire.specs.Body.{reservedAddr}
-use Rattle.wire.specs.Laying.{bodyWith}
+use Rattle.laying.specs.Laying.{bodyWith}
 use Rattle.frame_reading.specs.Reading.{readFrame}
 use Rattle.frame_kinds.specs.declared.kinds.Frame.{Frame}
-use Rattle.frame_reading.specs.declared.reading.Reading.the-variants.{Valid}
+use Rattle.frame_reading.specs.declared.Reading.the-variants.{Valid}
 use Rattle.frame_writing.proofs.LineBothWays.{Sendable, read-frame-laid}
 use Rattle.frame_text.specs.Explained.{isFlagged}
 

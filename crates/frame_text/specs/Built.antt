@@ -3,13 +3,13 @@ use mathlib.Core.List.{List}
 use Prim.Native.Nat.{ℕ}
 use lib.ListN.{length}
 use Rattle.text.specs.Putting.{hexText}
-use Rattle.wire.specs.Laying.{bodyOf, laidAnswer}
-use Rattle.wire.specs.declared.laying.Laid.{Laid}
-use Rattle.wire.specs.declared.laying.Laid.the-variants as laid
+use Rattle.laying.specs.Laying.{bodyOf, laidAnswer}
+use Rattle.laying.specs.declared.Laid.{Laid}
+use Rattle.laying.specs.declared.Laid.the-variants as laid
 use Rattle.frame_kinds.specs.Kinds.{appOf}
 use Rattle.frame_writing.specs.Writing.{writtenOf}
 use Rattle.frame_kinds.specs.declared.kinds.Frame.{Frame}
-use Rattle.frame_reading.specs.declared.reading.Reading.the-variants.{Reserved, Form}
+use Rattle.frame_reading.specs.declared.Reading.the-variants.{Reserved, Form}
 use Rattle.frame_words.specs.Texts.{put}
 use Rattle.frame_words.specs.declared.table.Kind.{Kind}
 use Rattle.frame_words.specs.declared.texts.Text.{Text}

@@ -8,11 +8,11 @@ use Rattle.base.specs.Choice.{choose}
 use Rattle.base.specs.Bytes.{bytesOf}
 use Rattle.fields.specs.Fields.{width8}
 use Rattle.text.specs.Putting.{hexText}
-use Rattle.frame_kinds.specs.Kinds.{dataLen, isSafe}
+use Rattle.frame_kinds.specs.Kinds.{dataIn}
 use Rattle.frame_reading.specs.Reading.{readFrame}
 use Rattle.frame_kinds.specs.declared.kinds.Frame.{Frame}
-use Rattle.frame_reading.specs.declared.reading.Reading.{Reading}
-use Rattle.frame_reading.specs.declared.reading.Reading.the-variants.{Valid, Length, Stuffing, Size, Fcs, Reserved, Kind, Form, Check}
+use Rattle.frame_reading.specs.declared.Reading.{Reading}
+use Rattle.frame_reading.specs.declared.Reading.the-variants.{Valid, Length, Stuffing, Size, Fcs, Reserved, Kind, Form, Check}
 use Rattle.frame_words.specs.Chars.{chars}
 use Rattle.frame_words.specs.Table.{Field, kindWord, fieldsOf, hasData}
 use Rattle.frame_words.specs.Texts.{put, puts}
@@ -27,14 +27,10 @@ unfoldable pub putFields : List Field → List ℕ → ℕ → Text → Text
 putFields [] vs i t = t
 putFields (f ∷ fs) vs i t = putFields fs vs (i + 1) (putField t f (getD vs i 0))
 
--- the data bytes in the application data: at 12 in safe frames, at 5 in others
-unfoldable pub dataOf : Frame → List ℕ → List ℕ
-dataOf f bytes = take (dataLen f) (drop (choose (isSafe f) 12 5) bytes)
-
 unfoldable pub frameText : Text → ℕ → Frame → List ℕ → Text
 frameText t a f bytes =
     choose (hasData (kindOf f))
-    (puts (putFields (fieldsOf (kindOf f)) (numbersOf a f) 0 (put t (kindWord (kindOf f)))) (chars " data=" ∷ hexText (dataOf f bytes) ∷ []))
+    (puts (putFields (fieldsOf (kindOf f)) (numbersOf a f) 0 (put t (kindWord (kindOf f)))) (chars " data=" ∷ hexText (dataIn f bytes) ∷ []))
     (putFields (fieldsOf (kindOf f)) (numbersOf a f) 0 (put t (kindWord (kindOf f))))
 
 -- or the reader's refusal

@@ -3,8 +3,8 @@ use mathlib.Core.List.{List, [], _∷_}
 use Prim.Native.Nat.{ℕ}
 use Rattle.text.specs.Decimal.{decimalText}
 use Rattle.frame_reading.specs.Reading.{readingNumber}
-use Rattle.frame_reading.specs.declared.reading.Reading.{Reading}
-use Rattle.frame_reading.specs.declared.reading.Reading.the-variants.{Valid, Length, Stuffing, Size, Fcs, Reserved, Kind, Form, Check}
+use Rattle.frame_reading.specs.declared.Reading.{Reading}
+use Rattle.frame_reading.specs.declared.Reading.the-variants.{Valid, Length, Stuffing, Size, Fcs, Reserved, Kind, Form, Check}
 use Rattle.frame_words.specs.Chars.{chars}
 use Rattle.frame_words.specs.Texts.{noText, puts}
 use Rattle.frame_words.specs.declared.texts.Text.{Text}

@@ -8,12 +8,11 @@ ghost use Rattle.frame_text.specs.Built.{frameBuilt, builtText};
 use crate::said;
 use frame_fields::numbers;
 use frame_kinds::kinds::Frame;
-use frame_reading::reading::Reading;
+use frame_reading::Reading;
 use frame_words::table::Kind;
 use frame_words::texts;
 use frame_words::texts::Text;
-use frame_writing::writing;
-use wire::laying::Laid;
+use laying::Laid;
 
 // Adds what is between the flags of a line of `n` bytes.
 fn add_body(t: Text, line: &[u8], n: usize) -> Text
@@ -28,7 +27,7 @@ fn frame_built(t: Text, addr: u8, f: Frame, data: &[u8]) -> Text
     ensures { λ r. ⌜ r ≡ frameBuilt t addr f (now («data» .entry)) ⌝ }
 {
     let mut line = [0u8; 600];
-    match writing::write_frame(&mut line, addr, f, data) {
+    match frame_writing::write_frame(&mut line, addr, f, data) {
         Laid::Sent(n) => add_body(t, &line, n),
         Laid::Reserved => said::refused(t, Reading::Reserved),
         Laid::Form => said::refused(t, Reading::Form),

@@ -2,22 +2,20 @@
 ghost use mathlib.Core.Path.{_≡_};
 ghost use Prim.Native.Nat.{_*_, _/_, _≤_, _<_};
 ghost use lib.ListN.{length, getD};
-ghost use Rattle.base.specs.Choice.{choose};
 ghost use Rattle.base.specs.Bytes.{bytesOf};
 ghost use Rattle.fields.specs.Fields.{width8};
 ghost use Rattle.text.specs.Putting.{hexText};
-ghost use Rattle.frame_kinds.specs.Kinds.{isSafe};
+ghost use Rattle.frame_kinds.specs.Kinds.{dataIn};
 ghost use Rattle.frame_words.specs.Words.{wordAt};
 ghost use Rattle.frame_words.specs.Table.{fieldsIn};
 ghost use Rattle.frame_words.specs.Texts.{put};
-ghost use Rattle.frame_text.specs.Explained.{putField, putFields, dataOf, frameText, readText, isFlagged, explainedText};
+ghost use Rattle.frame_text.specs.Explained.{putField, putFields, frameText, readText, isFlagged, explainedText};
 use crate::said;
 use frame_fields::numbers;
 use frame_kinds::kinds;
 use frame_kinds::kinds::Frame;
 use frame_kinds::number;
-use frame_reading::reading;
-use frame_reading::reading::Reading;
+use frame_reading::Reading;
 use frame_words::table;
 use frame_words::table::Form;
 use frame_words::texts;
@@ -71,21 +69,11 @@ fn add_fields(t: Text, form: Form, v: [u64; 8]) -> Text
     u
 }
 
-// Where the data bytes of a frame begin in its application data.
-fn data_place(f: Frame) -> usize
-    ensures { λ r. ⌜ (r ≡ choose (isSafe f) 12 5) × (r ≤ 12) ⌝ }
-{
-    if kinds::is_safe(f) {
-        return 12;
-    }
-    5
-}
-
 fn add_data(t: Text, f: Frame, bytes: &[u8]) -> Text
     requires { ⌜ 268 ≤ length (now bytes) ⌝ }
-    ensures { λ r. ⌜ r ≡ put t (hexText (dataOf f (now (bytes .entry)))) ⌝ }
+    ensures { λ r. ⌜ r ≡ put t (hexText (dataIn f (now (bytes .entry)))) ⌝ }
 {
-    let from = data_place(f);
+    let from = kinds::data_place(f);
     let end = from + kinds::data_len(f);
     texts::add_hex(t, &bytes[from..end])
 }
@@ -109,7 +97,7 @@ fn frame_text(t: Text, addr: u8, f: Frame, bytes: &[u8]) -> Text
 fn read_text(t: Text, body: &[u8]) -> Text
     ensures { λ r. ⌜ r ≡ readText t (now (body .entry)) ⌝ }
 {
-    let r = reading::read_frame(body);
+    let r = frame_reading::read_frame(body);
     let reading = r.reading;
     let bytes = r.bytes;
     match reading {

@@ -13,7 +13,7 @@ use Rattle.frame_kinds.specs.Kinds.{dataLen, dataIn, appOf}
 use Rattle.frame_reading.specs.Reading.{readApp}
 use Rattle.frame_writing.specs.Writing.{fieldsFit, fits}
 use Rattle.frame_kinds.specs.Sized.{Sized}
-use Rattle.frame_forms.specs.declared.forms.Read.the-variants.{Valid}
+use Rattle.frame_forms.specs.declared.Read.the-variants.{Valid}
 use Rattle.frame_kinds.specs.declared.kinds.Frame.{Frame}
 use Rattle.frame_writing.proofs.Fits.{fitting, sized}
 use Rattle.frame_kinds.proofs.Parts.{data-back}

@@ -15,20 +15,20 @@ use Rattle.base.proofs.Bytes.{bytes-take, bytes-drop}
 use Rattle.base.proofs.Choosing.{and-parts}
 use Rattle.stuffing.specs.Stuffing.{stuff}
 use Rattle.wire.specs.Body.{reservedAddr, fcsOf, readBody}
-use Rattle.wire.specs.Laying.{bodyWith, bodyOf}
-use Rattle.wire.specs.declared.body.Body.{Body}
-use Rattle.wire.proofs.LineBytes.{unstuffed-bytes}
-use Rattle.wire.proofs.BodyBothWays.{takenBody, held-data, laid-then-read, Exact, read-then-laid}
+use Rattle.laying.specs.Laying.{bodyWith, bodyOf}
+use Rattle.wire.specs.declared.Body.{Body}
+use Rattle.laying.proofs.LineBytes.{unstuffed-bytes}
+use Rattle.laying.proofs.BodyBothWays.{takenBody, held-data, laid-then-read, Exact, read-then-laid}
 use Rattle.frame_kinds.specs.Kinds.{dataLen, dataIn, appOf}
 use Rattle.frame_reading.specs.Reading.{readApp, receivedBody, readFrame, readingAnswer, answerToFrame}
 use Rattle.frame_writing.specs.Writing.{fieldsFit, fits, frameLine, writtenOf}
 use Rattle.frame_kinds.specs.Sized.{Sized}
-use Rattle.frame_forms.specs.declared.forms.Read.the-variants.{Valid}
-use Rattle.frame_reading.specs.declared.reading.Reading.{Reading}
-use Rattle.frame_reading.specs.declared.reading.Reading.the-variants as reading
-use Rattle.frame_reading.specs.declared.reading.Received.{Received}
+use Rattle.frame_forms.specs.declared.Read.the-variants.{Valid}
+use Rattle.frame_reading.specs.declared.Reading.{Reading}
+use Rattle.frame_reading.specs.declared.Reading.the-variants as reading
+use Rattle.frame_reading.specs.declared.Received.{Received}
 use Rattle.frame_kinds.specs.declared.kinds.Frame.{Frame}
-use Rattle.wire.specs.declared.laying.Laid.the-variants.{Sent}
+use Rattle.laying.specs.declared.Laid.the-variants.{Sent}
 use Rattle.frame_kinds.proofs.Parts.{app-length}
 use Rattle.frame_writing.proofs.Sizes.{in-body}
 use Rattle.frame_writing.proofs.Sending.{between, between-line, sent, sent-says}

@@ -11,8 +11,8 @@ use lib.Seq.{take-at}
 use Rattle.base.specs.Choice.{choose}
 use Rattle.base.proofs.Choosing.{absurdly}
 use Rattle.wire.specs.Body.{reservedAddr}
-use Rattle.wire.specs.Laying.{lineWith, bodyOf, lineOf}
-use Rattle.wire.specs.declared.laying.Laid.the-variants.{Sent, Reserved, Form, Room}
+use Rattle.laying.specs.Laying.{lineWith, bodyOf, lineOf}
+use Rattle.laying.specs.declared.Laid.the-variants.{Sent, Reserved, Form, Room}
 use Rattle.frame_writing.specs.Writing.{fits, frameLine, writtenOf}
 use Rattle.frame_kinds.specs.declared.kinds.Frame.{Frame}
 

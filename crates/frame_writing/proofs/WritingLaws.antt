@@ -9,9 +9,9 @@ use lib.Dec.{eqb}
 use lib.ListN.{length}
 use Rattle.base.proofs.Choosing.{and-parts}
 use Rattle.wire.specs.Body.{reservedAddr}
-use Rattle.wire.specs.Laying.{laidOf}
-use Rattle.wire.specs.declared.laying.Laid.the-variants.{Reserved, Form}
-use Rattle.wire.proofs.LayingLaws.{laid-by-room}
+use Rattle.laying.specs.Laying.{laidOf}
+use Rattle.laying.specs.declared.Laid.the-variants.{Reserved, Form}
+use Rattle.laying.proofs.LayingLaws.{laid-by-room}
 use Rattle.frame_kinds.specs.Kinds.{dataLen, appOf}
 use Rattle.frame_kinds.specs.Sized.{Sized}
 use Rattle.frame_writing.specs.Writing.{fieldsFit, fits, writtenOf}

@@ -7,9 +7,9 @@ use lib.ListN.{length}
 use Rattle.base.specs.Choice.{choose}
 use Rattle.wire.specs.Answer.{Answer}
 use Rattle.wire.specs.Body.{reservedAddr}
-use Rattle.wire.specs.Laying.{lineOf, laidAnswer}
-use Rattle.wire.specs.declared.laying.Laid.{Laid}
-use Rattle.wire.specs.declared.laying.Laid.the-variants.{Sent, Reserved, Form, Room}
+use Rattle.laying.specs.Laying.{lineOf, laidAnswer}
+use Rattle.laying.specs.declared.Laid.{Laid}
+use Rattle.laying.specs.declared.Laid.the-variants.{Sent, Reserved, Form, Room}
 use Rattle.frame_kinds.specs.Kinds.{dataLen, appOf}
 use Rattle.frame_forms.specs.Forms.{safeCom, plainCom}
 use Rattle.frame_kinds.specs.declared.kinds.Frame.{Frame}

@@ -15,7 +15,6 @@ use crate::answering;
 use console::blocks;
 use console::lines;
 use console::lines::Cursor;
-use frame_grammar::grammar;
 use frame_words::texts;
 use frame_words::texts::Text;
 
@@ -50,7 +49,7 @@ fn end_text(lines: u64) -> Text
     ensures { λ r. ⌜ r ≡ endText lines ⌝ }
 {
     if lines == 0 {
-        return grammar::grammar_text();
+        return frame_grammar::grammar_text();
     }
     texts::no_text()
 }

@@ -1,28 +1,21 @@
 -- Laws of a list's lines: pairs of hex digits told from other text, and a port. Assumes nothing.
 use mathlib.Core.Path.{_≡_, refl}
-use mathlib.Core.Bool.{Bool, true, false, _&&_}
+use mathlib.Core.Bool.{true, false, _&&_}
 use mathlib.Core.List.{List}
 use mathlib.Core.Option.{Option, none, some}
 use Prim.Native.Nat.{ℕ, _≤_, _<_}
 use native.Mathlib.Omega.{arith}
 use borrow.Author.Tests.{lt-ltb, le-ltb, ltb-true}
-use lib.Dec.{eqb, ltb}
+use lib.Dec.{eqb}
 use lib.ListN.{length, drop, getD}
-use Rattle.base.specs.Choice.{choose, within}
+use Rattle.base.specs.Choice.{within}
 use Rattle.base.proofs.Choosing.{absurdly, and-left}
 use Rattle.text.specs.Hex.{hexPairs, hexOf}
 use Rattle.text.specs.declared.hex.Hex.the-variants.{Bytes, NotHex, NoRoom}
+use Rattle.text.proofs.HexRead.{not-hex}
 use Rattle.list_lines.specs.Listed.{hasPort, arePairs, pairsFrom}
 
 -- ---- what reading pairs into m bytes tells
-pub not-hex : (m : ℕ) (o : Option (List ℕ)) → NotHex ≡ hexOf m o → o ≡ none
-not-hex m none e = refl
-not-hex m (some bs) e = by (ltb m (length bs)) e
-  where
-    by : (t : Bool) → NotHex ≡ choose t NoRoom (Bytes (length bs)) → some bs ≡ none
-    by true e = absurdly (cc)
-    by false e = absurdly (cc)
-
 -- bytes that were read, or that are too many, are pairs
 pub bytes-are-pairs : (m n : ℕ) (s : List ℕ) (i : ℕ) → Bytes n ≡ hexOf m (hexPairs (drop i s)) → true ≡ pairsFrom s i
 unfolding pairsFrom

@@ -12,13 +12,13 @@ use lib.ListN.{length}
 use Rattle.base.specs.Choice.{choose}
 use Rattle.base.proofs.Choosing.{by-test, and-left, and-right, or-left-false, or-right-false}
 use Rattle.wire.specs.Body.{readBody}
-use Rattle.wire.specs.declared.body.Verdict.{Verdict}
-use Rattle.wire.specs.declared.body.Verdict.the-variants as verdict
+use Rattle.wire.specs.declared.Verdict.{Verdict}
+use Rattle.wire.specs.declared.Verdict.the-variants as verdict
 use Rattle.frame_kinds.specs.Kinds.{dataIn}
 use Rattle.frame_kinds.specs.declared.kinds.Frame.{Frame}
 use Rattle.frame_kinds.specs.declared.kinds.Frame.the-variants.{Sync, SafeRead, SafeWrite, PlainRead, PlainWrite, SafeResponse, PlainSyncResponse, PlainResponse, TidAssignment, SidAssignment, SidAssignment4, Acknowledgement, Invariants}
-use Rattle.frame_forms.specs.declared.forms.Read.{Read}
-use Rattle.frame_forms.specs.declared.forms.Read.the-variants.{Valid, Kind, Form, Check}
+use Rattle.frame_forms.specs.declared.Read.{Read}
+use Rattle.frame_forms.specs.declared.Read.the-variants.{Valid, Kind, Form, Check}
 use Rattle.frame_writing.specs.Writing.{frameLine}
 use Rattle.frame_reading.proofs.Receiving.{appIn}
 use Rattle.rules.specs.Answers.{accepted, bodyLength, stuffing, unstuffedLength, fcs, reserved, elsewhere, typ, form, crc, source, addressee, cycle, repeat, outOfOrder, tooMany, outsideRules, notAllowed, eightOthers, unsound, replyRoom, hostInput}

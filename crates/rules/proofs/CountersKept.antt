@@ -30,7 +30,7 @@ use Rattle.rules.specs.declared.Agent.{Agent}
 use Rattle.rules.specs.declared.Deed.{Deed}
 use Rattle.rules.specs.declared.Span.{Span}
 use Rattle.rules.specs.declared.Span.the-variants as span
-use Rattle.wire.specs.Laying.{lineWith}
+use Rattle.laying.specs.Laying.{lineWith}
 use Rattle.rules.proofs.ButFor.{other-stored}
 use Rattle.rules.proofs.Calm.{Calm, calm-same, calm-before, calm-behind, calm-between, calm-fallen, quiet-sent, calm-synced, calm-ticked}
 use Rattle.rules.proofs.Cases.{Accepts, heard, read, wrote, renamed, first, again, later, KindCase, refuses, fell, outside, accepts, FrameCase, unread, readAs, CallCase, unsoundly, hosts, ticks, stores, frames, call-case, by-sent}

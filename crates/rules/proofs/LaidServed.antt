@@ -11,15 +11,15 @@ use Rattle.base.specs.Bytes.{numberAt}
 use Rattle.base.specs.Choice.{choose}
 use Rattle.base.proofs.Choosing.{never, and-left, and-right}
 use Rattle.wire.specs.Body.{reservedAddr, fcsOf}
-use Rattle.wire.specs.Laying.{bodyOf}
-use Rattle.wire.proofs.BodyBothWays.{held-data, laid-then-read}
+use Rattle.laying.specs.Laying.{bodyOf}
+use Rattle.laying.proofs.BodyBothWays.{held-data, laid-then-read}
 use Rattle.frame_kinds.specs.Kinds.{dataLen, appOf}
 use Rattle.frame_kinds.specs.Sized.{Sized}
 use Rattle.frame_writing.specs.Writing.{fieldsFit, fits}
 use Rattle.frame_kinds.specs.declared.kinds.Frame.{Frame}
 use Rattle.frame_kinds.specs.declared.kinds.Frame.the-variants.{Sync, SafeRead, SafeWrite, PlainRead, PlainWrite, SafeResponse, PlainSyncResponse, PlainResponse, TidAssignment, SidAssignment, SidAssignment4, Acknowledgement, Invariants}
-use Rattle.frame_forms.specs.declared.forms.Read.{Read}
-use Rattle.frame_forms.specs.declared.forms.Read.the-variants.{Valid}
+use Rattle.frame_forms.specs.declared.Read.{Read}
+use Rattle.frame_forms.specs.declared.Read.the-variants.{Valid}
 use Rattle.frame_writing.proofs.BothWays.{written-then-read}
 use Rattle.frame_writing.proofs.Fits.{fitting}
 use Rattle.frame_writing.proofs.LineBothWays.{app-range}

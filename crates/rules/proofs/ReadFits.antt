@@ -5,7 +5,7 @@ use Prim.Native.Nat.{ℕ}
 use Rattle.base.specs.Bytes.{Bytes}
 use Rattle.frame_reading.specs.Reading.{readApp}
 use Rattle.frame_kinds.specs.declared.kinds.Frame.{Frame}
-use Rattle.frame_forms.specs.declared.forms.Read.the-variants.{Valid}
+use Rattle.frame_forms.specs.declared.Read.the-variants.{Valid}
 use Rattle.frame_writing.proofs.Fits.{FittingFrame}
 use Rattle.frame_writing.proofs.Standing.{stands-fitting}
 use Rattle.frame_writing.proofs.ValidStands.{stands}

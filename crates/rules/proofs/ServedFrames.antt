@@ -13,8 +13,8 @@ use Rattle.fields.specs.Fields.{fieldsAt, numbers}
 use Rattle.frame_reading.specs.Reading.{readApp}
 use Rattle.frame_kinds.specs.declared.kinds.Frame.{Frame}
 use Rattle.frame_kinds.specs.declared.kinds.Frame.the-variants.{Sync, SafeRead, SafeWrite, PlainRead, PlainWrite, SafeResponse, PlainSyncResponse, PlainResponse, TidAssignment, SidAssignment, SidAssignment4, Acknowledgement, Invariants}
-use Rattle.frame_forms.specs.declared.forms.Read.{Read}
-use Rattle.frame_forms.specs.declared.forms.Read.the-variants.{Valid, Kind, Form}
+use Rattle.frame_forms.specs.declared.Read.{Read}
+use Rattle.frame_forms.specs.declared.Read.the-variants.{Valid, Kind, Form}
 use Rattle.frame_writing.proofs.Standing.{Stands}
 use Rattle.frame_writing.proofs.ValidStands.{stands}
 use Rattle.rules.specs.FrameCall.{serves, served, isSil4, agentRead}

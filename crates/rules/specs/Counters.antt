@@ -12,7 +12,7 @@ use Rattle.wire.specs.Body.{readBody}
 use Rattle.frame_kinds.specs.Kinds.{dataIn}
 use Rattle.frame_kinds.specs.declared.kinds.Frame.{Frame}
 use Rattle.frame_kinds.specs.declared.kinds.Frame.the-variants.{SafeWrite}
-use Rattle.frame_forms.specs.declared.forms.Read.the-variants.{Valid}
+use Rattle.frame_forms.specs.declared.Read.the-variants.{Valid}
 use Rattle.rules.specs.Answers.{accepted, typ, cycle, outOfOrder}
 use Rattle.rules.specs.Calls.{Call, frame}
 use Rattle.rules.specs.Marks.{counter}

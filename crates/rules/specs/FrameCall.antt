@@ -7,15 +7,15 @@ use lib.ListN.{length, take}
 use Rattle.base.specs.Choice.{choose}
 use Rattle.base.specs.Bytes.{numberAt}
 use Rattle.wire.specs.Body.{readBody, verdictNumber}
-use Rattle.wire.specs.declared.body.Body.{Body}
-use Rattle.wire.specs.declared.body.Verdict.{Verdict}
-use Rattle.wire.specs.declared.body.Verdict.the-variants as verdict
+use Rattle.wire.specs.declared.Body.{Body}
+use Rattle.wire.specs.declared.Verdict.{Verdict}
+use Rattle.wire.specs.declared.Verdict.the-variants as verdict
 use Rattle.frame_kinds.specs.Kinds.{dataIn}
 use Rattle.frame_reading.specs.Reading.{readApp, readNumber}
 use Rattle.frame_kinds.specs.declared.kinds.Frame.{Frame}
 use Rattle.frame_kinds.specs.declared.kinds.Frame.the-variants.{Sync, SafeRead, SafeWrite, PlainRead, PlainWrite, SafeResponse, PlainSyncResponse, PlainResponse, TidAssignment, SidAssignment, SidAssignment4, Acknowledgement, Invariants}
-use Rattle.frame_forms.specs.declared.forms.Read.{Read}
-use Rattle.frame_forms.specs.declared.forms.Read.the-variants.{Valid, Kind, Form, Check}
+use Rattle.frame_forms.specs.declared.Read.{Read}
+use Rattle.frame_forms.specs.declared.Read.the-variants.{Valid, Kind, Form, Check}
 use Rattle.rules.specs.Answers.{elsewhere, typ, form}
 use Rattle.rules.specs.Assignments.{onTid, onSid}
 use Rattle.rules.specs.Marks.{lineMarked, formatMarked}

@@ -12,8 +12,8 @@ use Rattle.fields.specs.Fields.{numbers}
 use Rattle.wire.specs.Body.{readBody}
 use Rattle.frame_kinds.specs.Kinds.{headOf}
 use Rattle.frame_kinds.specs.declared.kinds.Frame.{Frame}
-use Rattle.frame_forms.specs.declared.forms.Read.{Read}
-use Rattle.frame_forms.specs.declared.forms.Read.the-variants.{Valid, Kind, Form, Check}
+use Rattle.frame_forms.specs.declared.Read.{Read}
+use Rattle.frame_forms.specs.declared.Read.the-variants.{Valid, Kind, Form, Check}
 use Rattle.rules.specs.Answers.{bodyLength, fcs, reserved, elsewhere, typ, form, crc, source, addressee, cycle, repeat, outOfOrder, tooMany, outsideRules, hostInput}
 use Rattle.rules.specs.Calls.{Call, tick, input, frame, leftIn}
 use Rattle.rules.specs.Fallback.{withheld, enterFallback}

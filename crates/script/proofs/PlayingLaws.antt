@@ -14,7 +14,7 @@ use Rattle.script_text.specs.Printing.{printed}
 use Rattle.script.specs.Playing.{numberOf, after, shown}
 use Rattle.script_lines.specs.declared.forms.Form.{Form}
 use Rattle.script.specs.declared.playing.Player.{Player}
-use Rattle.script_text.specs.declared.printing.View.{View}
+use Rattle.script_text.specs.declared.View.{View}
 use Rattle.script_lines.proofs.FormLaws.{step-bad}
 
 module _ (p : Player) (view : View) (form : Form) (bytes : List ℕ) (h : Handled) (reply : List ℕ) (n : ℕ) (b : Bool)

@@ -15,8 +15,8 @@ use Rattle.script_lines.specs.Forms.{lineOf, lineIn}
 use Rattle.script_text.specs.Printing.{headerOf}
 use Rattle.script.specs.Playing.{after, shown, scripted}
 use Rattle.script.specs.declared.playing.Player.{Player}
-use Rattle.script_text.specs.declared.printing.View.{View}
-use Rattle.script_text.specs.declared.printing.View.the-variants.{Script, Trace}
+use Rattle.script_text.specs.declared.View.{View}
+use Rattle.script_text.specs.declared.View.the-variants.{Script, Trace}
 use Rattle.script_lines.proofs.FormLaws.{text-long, line-long, line-held}
 
 line-kept : (line : List ℕ) (len : ℕ) (cs : List ℕ) → length line ≡ 1200 → Holds line len cs → lineIn line len ≡ lineOf cs

@@ -30,7 +30,7 @@ use Rattle.script_lines.specs.Forms.{Step, ticks, frame, inputs, bad, longest, 
 use Rattle.script_lines.specs.Doing.{afterTicks, done}
 use Rattle.script.specs.Playing.{start, after, scripted}
 use Rattle.script.specs.declared.playing.Player.{Player}
-use Rattle.script_text.specs.declared.printing.View.{View}
+use Rattle.script_text.specs.declared.View.{View}
 
 -- ---- what hex digits say is bytes
 SaysByte : Pair → Type 0

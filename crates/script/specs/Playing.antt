@@ -7,7 +7,7 @@ use Rattle.script_lines.specs.Forms.{Step, isBad, lineOf}
 use Rattle.script_lines.specs.Doing.{done}
 use Rattle.script_text.specs.Printing.{headerOf, printed}
 use Rattle.script.specs.declared.playing.Player.{Player}
-use Rattle.script_text.specs.declared.printing.View.{View}
+use Rattle.script_text.specs.declared.View.{View}
 
 -- power-up with MAC 1, IID 2 and VER 0, before the first line
 abbrev pub start : Player

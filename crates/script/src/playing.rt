@@ -16,9 +16,9 @@ use script_lines::forms::Form;
 use script_lines::forms::is_bad;
 use script_lines::forms::no_bytes;
 use script_lines::forms::read_line;
-use script_text::printing::View;
-use script_text::printing::no_text;
-use script_text::printing::put_line;
+use script_text::View;
+use script_text::no_text;
+use script_text::put_line;
 use text::putting::put_text;
 
 pub struct Player {

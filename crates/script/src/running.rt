@@ -8,8 +8,7 @@ use crate::playing::play_line;
 use console::blocks;
 use console::lines;
 use console::lines::Cursor;
-use script_text::printing;
-use script_text::printing::View;
+use script_text::View;
 
 // The header, and the text of every line. It is handed on when the output is full; its end is still in the output on return.
 fn play_all(
@@ -21,7 +20,7 @@ fn play_all(
     ensures { λ r. ⌜ (r .ended ≡ true → Whole (scripted view) (now (block .exit)) (now (out .exit)) r) ⌝ }
 {
     let mut p = playing::start();
-    let to = printing::put_header(out, 0, view);
+    let to = script_text::put_header(out, 0, view);
     let mut c = lines::begin(to);
     let mut turns = u64::MAX;
     while turns > 0 {

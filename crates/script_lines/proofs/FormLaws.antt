@@ -1,58 +1,28 @@
 -- Laws of the forms of a line: what reading hex digits gave, and a law for each case. Assumes nothing.
 use mathlib.Core.Path.{_≡_, refl, sym, ap, _∙_}
-use mathlib.Core.Bool.{Bool, true, false}
-use mathlib.Core.List.{List, [], _∷_, _++_}
-use mathlib.Core.Option.{Option, none, some}
+use mathlib.Core.Bool.{true, false}
+use mathlib.Core.List.{List, [], _∷_}
+use mathlib.Core.Option.{Option, some}
 use Prim.Native.Nat.{ℕ, _-_, _≤_, _<_}
 use native.Mathlib.Omega.{arith}
 use borrow.Author.Tests.{eq-eqb, ne-eqb, lt-ltb, le-ltb}
-use lib.Dec.{eqb, ltb}
+use lib.Dec.{eqb}
 use lib.ListN.{length, take, drop, getD, length-drop}
-use lib.Seq.{take-at}
 use Rattle.base.specs.Choice.{within}
-use Rattle.base.proofs.Choosing.{absurdly}
 use Rattle.text.specs.Decimal.{decimalOf}
-use Rattle.text.specs.Hex.{hexPairs, hexOf, hexLeft}
+use Rattle.text.specs.Hex.{hexPairs, hexOf}
 use Rattle.text.specs.declared.decimal.Decimal.{Decimal}
 use Rattle.text.specs.declared.decimal.Decimal.the-variants.{Number, NotNumber}
-use Rattle.text.specs.declared.hex.Hex.the-variants.{Bytes, NotHex, NoRoom}
+use Rattle.text.specs.declared.hex.Hex.the-variants.{NoRoom}
 use Rattle.text.proofs.HexLaws.{pairs-length}
+use Rattle.text.proofs.HexRead.{room-never}
 use Rattle.script_lines.specs.Forms.{Step, inputs, bad, ticksOf, frameOf, inputsOf, formOf, lineOf, lineIn, stepIn, isBad, isBadForm, ticksForm}
 use Rattle.script_lines.specs.declared.forms.Form.{Form}
 use Rattle.script_lines.specs.declared.forms.Form.the-variants.{Ticks, Frame, Inputs, Bad}
 
--- ---- what reading hex digits into a buffer gave
-pub got-bytes : (o : Option (List ℕ)) (buf out : List ℕ) (n : ℕ) → Bytes n ≡ hexOf (length buf) o → out ≡ hexLeft o buf
-    → (o ≡ some (take n out)) × (length (take n out) ≡ n)
-got-bytes none buf out n e l = absurdly (cc)
-got-bytes (some bs) buf out n e l = by (ltb (length buf) (length bs)) refl
-  where
-    by : (t : Bool) → ltb (length buf) (length bs) ≡ t → (_≡_ {A = Option (List ℕ)} (some bs) (some (take n out))) × (length (take n out) ≡ n)
-    by true t = let f : Bytes n ≡ NoRoom = rw t at e in absurdly (cc)
-    by false t =
-        let f : Bytes n ≡ Bytes (length bs) = rw t at e in
-        let q : n ≡ length bs = cc in
-        let g : out ≡ bs ++ drop (length bs) buf = rw t at l in
-        let h : take n out ≡ bs = ap (take n) g ∙ take-at bs (drop (length bs) buf) n (sym q) in
-        (ap some (sym h), ap length h ∙ sym q)
-
-pub got-not : (o : Option (List ℕ)) (m : ℕ) → NotHex ≡ hexOf m o → o ≡ none
-got-not none m e = refl
-got-not (some bs) m e = by (ltb m (length bs)) refl
-  where
-    by : (t : Bool) → ltb m (length bs) ≡ t → _≡_ {A = Option (List ℕ)} (some bs) none
-    by true t = let f : NotHex ≡ NoRoom = rw t at e in absurdly (cc)
-    by false t = let f : NotHex ≡ Bytes (length bs) = rw t at e in absurdly (cc)
-
 -- a line of 1,200 characters has at most 600 bytes
 pub got-room : {P : Type 0} (s : List ℕ) (m : ℕ) → length s ≤ 1200 → m ≡ 600 → NoRoom ≡ hexOf m (hexPairs (drop 2 s)) → P
-got-room {P} s m h k e = by (hexPairs (drop 2 s)) refl
-  where
-    by : (o : Option (List ℕ)) → hexPairs (drop 2 s) ≡ o → P
-    by none q = let f : NoRoom ≡ NotHex = rw q at e in absurdly (cc)
-    by (some bs) q =
-        let l : ltb m (length bs) ≡ false = le-ltb m (length bs) (omega (arith, pairs-length (drop 2 s) bs q, length-drop 2 s)) in
-        let f : NoRoom ≡ Bytes (length bs) = rw (q, l) at e in absurdly (cc)
+got-room s m h k e = room-never m (hexPairs (drop 2 s)) (λ bs q. omega (arith, pairs-length (drop 2 s) bs q, length-drop 2 s)) e
 
 -- ---- a line by its form
 pub inputs-64 : (o : Option (List ℕ)) (out : List ℕ) (n : ℕ) → (o ≡ some (take n out)) × (length (take n out) ≡ n) → n ≡ 64

@@ -17,8 +17,8 @@ use Rattle.text.proofs.PuttingLaws.{Put, put-whole, wrote-both, digits-two, tex
 use Rattle.rules.specs.Replies.{Outcome}
 use Rattle.rules.specs.State.{running}
 use Rattle.rules.specs.declared.Agent.{Agent}
-use Rattle.script_text.specs.declared.printing.View.{View}
-use Rattle.script_text.specs.declared.printing.View.the-variants.{Script, Trace}
+use Rattle.script_text.specs.declared.View.{View}
+use Rattle.script_text.specs.declared.View.the-variants.{Script, Trace}
 use Rattle.script_text.specs.Printing.{space, lineEnd, badText, answerText, modeText, stateText, replyText, traceText, viewText, fieldsText, printed, Wrote}
 
 -- one part put behind another

@@ -12,8 +12,8 @@ use Rattle.text.specs.Putting.{hexDigits, hexText}
 use Rattle.rules.specs.Replies.{Outcome}
 use Rattle.rules.specs.State.{running}
 use Rattle.rules.specs.declared.Agent.{Agent}
-use Rattle.script_text.specs.declared.printing.View.{View}
-use Rattle.script_text.specs.declared.printing.View.the-variants.{Script, Trace}
+use Rattle.script_text.specs.declared.View.{View}
+use Rattle.script_text.specs.declared.View.the-variants.{Script, Trace}
 
 abbrev pub space : List ℕ
 space = 0x20 ∷ []

@@ -1,4 +1,5 @@
 pub mod HexLaws
+pub mod HexRead
 pub mod HexBothWays
 pub mod DecimalLaws
 pub mod DecimalBothWays

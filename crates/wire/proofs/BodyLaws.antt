@@ -10,7 +10,7 @@ use Rattle.crc.specs.declared.Poly.the-variants.{Fcs}
 use Rattle.stuffing.specs.Stuffing.{unstuff, plainOf}
 use Rattle.wire.specs.Body.{reservedAddr, fcsOf, refusedBody, checkedBody, unstuffedBody, readBody}
 use Rattle.stuffing.specs.declared.Unstuffed.{Unstuffed}
-use Rattle.wire.specs.declared.body.Verdict.the-variants.{Valid, Length, Stuffing, Size, Check, Reserved}
+use Rattle.wire.specs.declared.Verdict.the-variants.{Valid, Length, Stuffing, Size, Check, Reserved}
 
 -- the FCS in two steps, the address first
 pub fcs-steps : (a : ℕ) (xs : List ℕ) → crcFrom (polyOf Fcs) (crcOf Fcs (a ∷ [])) xs ≡ fcsOf a xs

@@ -8,7 +8,7 @@ use borrow.Author.Tests.{ltb-false}
 use Rattle.base.proofs.Choosing.{by-test}
 use Rattle.stuffing.specs.Stuffing.{unstuff, plainOf}
 use Rattle.wire.specs.Body.{reservedAddr, fcsOf, checkedBody, unstuffedBody, readBody}
-use Rattle.wire.specs.declared.body.Body.{Body}
+use Rattle.wire.specs.declared.Body.{Body}
 use Rattle.stuffing.specs.declared.Unstuffed.{Unstuffed}
 
 abbrev Short : Body → Type 0

@@ -15,9 +15,9 @@ use Rattle.wire.specs.Body.{fcsOf, reservedAddr, refusedBody, checkedBod
 use Rattle.stuffing.specs.declared.Meaning.{Meaning}
 use Rattle.stuffing.specs.declared.Meaning.the-variants.{Plain, Escape, Wrong}
 use Rattle.stuffing.specs.declared.Unstuffed.{Unstuffed}
-use Rattle.wire.specs.declared.body.Verdict.{Verdict}
-use Rattle.wire.specs.declared.body.Verdict.the-variants.{Length, Stuffing, Size, Check, Reserved}
-use Rattle.wire.specs.declared.body.Body.{Body}
+use Rattle.wire.specs.declared.Verdict.{Verdict}
+use Rattle.wire.specs.declared.Verdict.the-variants.{Length, Stuffing, Size, Check, Reserved}
+use Rattle.wire.specs.declared.Body.{Body}
 
 -- bytes, where there is something
 abbrev PlainBytes : Option (List ℕ) → Type 0

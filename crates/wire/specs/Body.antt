@@ -11,9 +11,9 @@ use Rattle.crc.specs.declared.Poly.the-variants.{Fcs}
 use Rattle.wire.specs.Answer.{Answer}
 use Rattle.stuffing.specs.Stuffing.{unstuff, plainOf}
 use Rattle.stuffing.specs.declared.Unstuffed.{Unstuffed}
-use Rattle.wire.specs.declared.body.Verdict.{Verdict}
-use Rattle.wire.specs.declared.body.Verdict.the-variants.{Valid, Length, Stuffing, Size, Check, Reserved}
-use Rattle.wire.specs.declared.body.Body.{Body}
+use Rattle.wire.specs.declared.Verdict.{Verdict}
+use Rattle.wire.specs.declared.Verdict.the-variants.{Valid, Length, Stuffing, Size, Check, Reserved}
+use Rattle.wire.specs.declared.Body.{Body}
 
 -- document 01's number for each verdict and, with 0, the address and the application data
 abbrev pub verdictAnswer : Verdict → ℕ → List ℕ → Answer (ℕ × List ℕ)

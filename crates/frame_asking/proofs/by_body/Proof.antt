@@ -1,13 +1,13 @@
 -- `asking::by_body` meets its contract, by the result of reading hex digits. Assumes nothing.
-use mathlib.Core.Path.{_≡_, refl, sym, _∙_}
+use mathlib.Core.Path.{_≡_, sym, _∙_}
 use Prim.Native.Nat.{_+_, _≤_}
 use native.Mathlib.Omega.{arith}
 use lib.ListN.{length, drop}
 use lib.Seq.{length-take-le}
 use Rattle.text.specs.Hex.{hexPairs}
 use Rattle.text.proofs.HexLaws.{read-within}
-use Rattle.list_lines.proofs.ListedLaws.{not-hex}
-use Rattle.frame_asking.proofs.HexCount.{bytes-are, room-never, dropped-half}
+use Rattle.text.proofs.HexRead.{bytes-got, not-hex, room-never}
+use Rattle.frame_asking.proofs.HexCount.{half-room, dropped-half}
 use Rattle.frame_asking.proofs.OutcomeLaws.{body-missing, body-by}
 use borrow.Author.Needs.{needs}
 use Rattle.frame_asking.proofs.by_body.Statement.{statement}
@@ -68,7 +68,7 @@ returns-2 : tie.Need-returns-2
 returns-2 c =
     let a = c .before .before .before .before .before .before .before .before .before .before .before .args in
     let h = c .before .before .before .before .before .before .hex-bytes .ensures in
-    rw (body-by (a .line .now) (a .at) (c .before .before .before .before .before .before .before .before .if1 .left) _ (bytes-are _ _ _ _ refl (sym (c .before .before .before .n .given .1) ∙ h .0) (h .1))) (c .explained .ensures)
+    rw (body-by (a .line .now) (a .at) (c .before .before .before .before .before .before .before .before .if1 .left) _ (bytes-got _ _ _ _ (sym (c .before .before .before .n .given .1) ∙ h .0) (h .1) .0)) (c .explained .ensures)
 
 returns-3 : tie.Need-returns-3
 returns-3 c =
@@ -78,7 +78,10 @@ returns-3 c =
 returns-4 : tie.Need-returns-4
 returns-4 c =
     let a = c .before .before .before .before .before .before .before .before .before .before .args in
-    room-never (length (a .line .now)) (hexPairs (drop (a .at + 1) (a .line .now))) (c .before .before .before .before .before .before .before .before .before .before .pre) (dropped-half (a .at + 1) (a .line .now)) (sym (c .before .before .enum-told2 .given .1) ∙ c .before .before .before .before .before .hex-bytes .ensures .0)
+    let o = hexPairs (drop (a .at + 1) (a .line .now)) in
+    let h = c .before .before .before .before .before .before .before .before .before .before .pre in
+    room-never 600 o (half-room (length (a .line .now)) o h (dropped-half (a .at + 1) (a .line .now)))
+    (sym (c .before .before .enum-told2 .given .1) ∙ c .before .before .before .before .before .hex-bytes .ensures .0)
 
 pub by-body-spec : {M : Type 1} → statement M
 by-body-spec =

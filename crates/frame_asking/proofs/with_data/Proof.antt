@@ -1,13 +1,13 @@
 -- `asking::with_data` meets its contract, by the result of reading hex digits. Assumes nothing.
-use mathlib.Core.Path.{_≡_, refl, sym, _∙_}
+use mathlib.Core.Path.{_≡_, sym, _∙_}
 use mathlib.Core.Option.{some}
 use native.Mathlib.Omega.{arith}
 use lib.ListN.{length, take}
 use lib.Seq.{length-take-le}
 use Rattle.text.proofs.HexLaws.{read-within}
 use Rattle.frame_fields.specs.Rows.{dataAt}
-use Rattle.list_lines.proofs.ListedLaws.{not-hex}
-use Rattle.frame_asking.proofs.HexCount.{bytes-are, room-never, data-half, data-inside}
+use Rattle.text.proofs.HexRead.{bytes-got, not-hex, room-never}
+use Rattle.frame_asking.proofs.HexCount.{half-room, data-half, data-inside}
 use Rattle.frame_asking.proofs.OutcomeLaws.{with-data}
 use Prim.Native.Nat.{_≤_}
 use borrow.Author.Needs.{needs}
@@ -16,7 +16,7 @@ use Rattle.frame_asking.proofs.with_data.Tie as tie
 
 -- the bytes that were read
 read : (c : tie.After-known-told) → let a = c .before .before .before .before .before .before .before .before .args in dataAt (a .line .now) (a .at) ≡ some (take (c .before .n .given .0 .0) (c .before .before .before .before .data-at .last .1 .1 .0))
-read c = let h = c .before .before .before .before .data-at .ensures in bytes-are _ _ _ _ refl (sym (c .before .n .given .1) ∙ h .0) (h .1)
+read c = let h = c .before .before .before .before .data-at .ensures in bytes-got _ _ _ _ (sym (c .before .n .given .1) ∙ h .0) (h .1) .0
 
 within : (c : tie.After-known-told) → c .before .n .given .0 .0 ≤ 600
 within c = let a = c .before .before .before .before .before .before .before .before .args in read-within 600 _ (dataAt (a .line .now) (a .at)) (sym (c .before .n .given .1) ∙ c .before .before .before .before .data-at .ensures .0)
@@ -76,7 +76,10 @@ returns-2 c =
 returns-3 : tie.Need-returns-3
 returns-3 c =
     let a = c .before .before .before .before .before .before .before .before .before .args in
-    room-never (length (a .line .now)) (dataAt (a .line .now) (a .at)) (c .before .before .before .before .before .before .before .before .before .pre) (data-half (a .line .now) (a .at)) (sym (c .before .before .enum-told2 .given .1) ∙ c .before .before .before .before .before .data-at .ensures .0)
+    let o = dataAt (a .line .now) (a .at) in
+    let h = c .before .before .before .before .before .before .before .before .before .pre in
+    room-never 600 o (half-room (length (a .line .now)) o h (data-half (a .line .now) (a .at)))
+    (sym (c .before .before .enum-told2 .given .1) ∙ c .before .before .before .before .before .data-at .ensures .0)
 
 pub with-data-spec : {M : Type 1} → statement M
 with-data-spec =

@@ -4,7 +4,7 @@ use native.Mathlib.Omega.{arith}
 use lib.ListN.{length}
 use lib.Seq.{length-take-le}
 use borrow.Author.Needs.{needs}
-use Rattle.wire.specs.declared.body.Verdict.{Verdict}
+use Rattle.wire.specs.declared.Verdict.{Verdict}
 use Rattle.rules.specs.FrameCall.{onVerdict, onBody}
 use Rattle.agent.proofs.OtherArms.{line-refused}
 use Rattle.agent.proofs.frame_call.on_body.Statement.{statement}

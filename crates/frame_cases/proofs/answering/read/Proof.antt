@@ -37,7 +37,7 @@ returns-2 c =
       c .add3 .ensures,
       d .data-field .ensures,
       d .before .data-len .ensures,
-      d .before .before .data-place .ensures,
+      d .before .before .data-place .ensures .0,
       d .before .before .before .before .add-frame .ensures,
       d .before .before .before .before .before .add2 .ensures,
       u .no-text2 .ensures,

@@ -2,7 +2,7 @@
 use mathlib.Core.Path.{_≡_}
 use Prim.Native.Nat.{_+_, _-_, _≤_}
 use native.Mathlib.Omega.{arith}
-use Rattle.frame_text.specs.Explained.{dataOf}
+use Rattle.frame_kinds.proofs.Parts.{data-at}
 use Rattle.frame_kinds.proofs.Typed.{typed}
 use Rattle.frame_text.proofs.ExplainingLaws.{data-most}
 use borrow.Author.Needs.{needs}
@@ -37,12 +37,12 @@ add-hex-requires : tie.Need-add-hex-requires
 add-hex-requires c κs = search needs
 
 returns : tie.Need-returns
-unfolding dataOf
 returns c =
+    let a = c .before .before .before .before .before .args in
     let p = c .before .before .before .data-place .result in
     let n = c .before .before .data-len .result in
     let e : p + n - p ≡ n = omega arith in
-    rw (c .add-hex .ensures, e, c .before .before .before .data-place .ensures .0, c .before .before .data-len .ensures)
+    rw (c .add-hex .ensures, e, c .before .before .before .data-place .ensures .0, c .before .before .data-len .ensures, data-at (a .f) (a .bytes .now))
 
 pub add-data-spec : {M : Type 1} → statement M
 add-data-spec =

@@ -3,7 +3,8 @@ use mathlib.Core.Path.{sym, ap, _∙_}
 use lib.ListN.{length, drop}
 use Rattle.text.specs.Hex.{hexPairs}
 use Rattle.script_lines.specs.Forms.{frameOf}
-use Rattle.script_lines.proofs.FormLaws.{got-bytes, got-not, got-room}
+use Rattle.text.proofs.HexRead.{bytes-got, not-hex}
+use Rattle.script_lines.proofs.FormLaws.{got-room}
 use borrow.Author.Needs.{needs}
 use Rattle.script_lines.proofs.forms.read_frame.Statement.{statement}
 use Rattle.script_lines.proofs.forms.read_frame.Tie as tie
@@ -24,13 +25,13 @@ returns : tie.Need-returns
 returns c =
     let h = c .before .before .before .hex-bytes in
     let a = c .before .before .before .before .before .before .args in
-    ap (frameOf (a .port)) (sym (got-bytes (hexPairs (drop 2 (a .text .now))) _ _ _ (sym (c .before .n .given .1) ∙ h .ensures .0) (h .ensures .1) .0))
+    ap (frameOf (a .port)) (sym (bytes-got (hexPairs (drop 2 (a .text .now))) _ _ _ (sym (c .before .n .given .1) ∙ h .ensures .0) (h .ensures .1) .0))
 
 returns-2 : tie.Need-returns-2
 returns-2 c =
     let h = c .before .before .hex-bytes in
     let a = c .before .before .before .before .before .args in
-    ap (frameOf (a .port)) (sym (got-not (hexPairs (drop 2 (a .text .now))) _ (sym (c .enum-told .given .1) ∙ h .ensures .0)))
+    ap (frameOf (a .port)) (sym (not-hex _ (hexPairs (drop 2 (a .text .now))) (sym (c .enum-told .given .1) ∙ h .ensures .0)))
 
 returns-3 : tie.Need-returns-3
 returns-3 c =

@@ -3,7 +3,8 @@ use mathlib.Core.Path.{sym, ap, _∙_}
 use lib.ListN.{length, drop}
 use Rattle.text.specs.Hex.{hexPairs}
 use Rattle.script_lines.specs.Forms.{inputsOf}
-use Rattle.script_lines.proofs.FormLaws.{got-bytes, got-not, got-room, inputs-64, inputs-other}
+use Rattle.text.proofs.HexRead.{bytes-got, not-hex}
+use Rattle.script_lines.proofs.FormLaws.{got-room, inputs-64, inputs-other}
 use borrow.Author.Needs.{needs}
 use Rattle.script_lines.proofs.forms.read_inputs.Statement.{statement}
 use Rattle.script_lines.proofs.forms.read_inputs.Tie as tie
@@ -18,7 +19,7 @@ returns : tie.Need-returns
 returns c =
     let h = c .before .before .before .before .hex-bytes in
     let o = hexPairs (drop 2 (c .before .before .before .before .before .before .before .args .text .now)) in
-    inputs-64 o _ _ (got-bytes o _ _ _ (sym (c .before .before .n .given .1) ∙ h .ensures .0) (h .ensures .1)) (c .if1 .taken)
+    inputs-64 o _ _ (bytes-got o _ _ _ (sym (c .before .before .n .given .1) ∙ h .ensures .0) (h .ensures .1)) (c .if1 .taken)
 
 enum-told : tie.Need-enum-told
 enum-told c = search needs
@@ -30,13 +31,13 @@ returns-2 : tie.Need-returns-2
 returns-2 c =
     let h = c .before .before .before .before .hex-bytes in
     let o = hexPairs (drop 2 (c .before .before .before .before .before .before .before .args .text .now)) in
-    inputs-other o _ _ (got-bytes o _ _ _ (sym (c .before .before .n .given .1) ∙ h .ensures .0) (h .ensures .1)) (c .if1 .left)
+    inputs-other o _ _ (bytes-got o _ _ _ (sym (c .before .before .n .given .1) ∙ h .ensures .0) (h .ensures .1)) (c .if1 .left)
 
 returns-3 : tie.Need-returns-3
 returns-3 c =
     let h = c .before .before .hex-bytes in
     let a = c .before .before .before .before .before .args in
-    ap inputsOf (sym (got-not (hexPairs (drop 2 (a .text .now))) _ (sym (c .enum-told .given .1) ∙ h .ensures .0)))
+    ap inputsOf (sym (not-hex _ (hexPairs (drop 2 (a .text .now))) (sym (c .enum-told .given .1) ∙ h .ensures .0)))
 
 returns-4 : tie.Need-returns-4
 returns-4 c =
