@@ -14,7 +14,9 @@ use Rattle.frame_asking.proofs.by_body.Statement.{statement}
 use Rattle.frame_asking.proofs.by_body.Tie as tie
 
 within : (c : tie.After-known-told) → c .before .n .given .0 .0 ≤ 600
-within c = let a = c .before .before .before .before .before .before .before .before .before .args in read-within 600 _ (hexPairs (drop (a .at + 1) (a .line .now))) (sym (c .before .n .given .1) ∙ c .before .before .before .before .hex-bytes .ensures .0)
+within c =
+    let a = c .before .before .before .before .before .before .before .before .before .args in
+    read-within 600 _ (hexPairs (drop (a .at + 1) (a .line .now))) (sym (c .before .n .given .1) ∙ c .before .before .before .before .hex-bytes .ensures .0)
 
 slice-aggregate-bad : tie.Need-slice-aggregate-bad
 slice-aggregate-bad c = search needs
@@ -23,7 +25,9 @@ bad-requires : tie.Need-bad-requires
 bad-requires c κs = search needs
 
 returns : tie.Need-returns
-returns c = let a = c .before .before .before .before .before .args in rw (body-missing (a .line .now) (a .at) (c .before .before .if1 .taken)) (c .bad .ensures)
+returns c =
+    let a = c .before .before .before .before .before .args in
+    rw (body-missing (a .line .now) (a .at) (c .before .before .if1 .taken)) (c .bad .ensures)
 
 add-hex-bytes : tie.Need-add-hex-bytes
 add-hex-bytes c = search needs
@@ -38,10 +42,14 @@ enum-known-n : tie.Need-enum-known-n
 enum-known-n c = search needs
 
 array-share-prefix-body : tie.Need-array-share-prefix-body
-array-share-prefix-body c = let n : length (c .before .before .before .before .hex-bytes .last .1 .1 .0) ≡ 600 = search needs in omega (arith, within c)
+array-share-prefix-body c =
+    let n : length (c .before .before .before .before .hex-bytes .last .1 .1 .0) ≡ 600 = search needs in
+    omega (arith, within c)
 
 slice-aggregate-explained : tie.Need-slice-aggregate-explained
-slice-aggregate-explained c = let n : length (c .before .before .before .before .before .hex-bytes .last .1 .1 .0) ≡ 600 = search needs in sym (length-take-le _ _ (omega (arith, within (c .before))))
+slice-aggregate-explained c =
+    let n : length (c .before .before .before .before .before .hex-bytes .last .1 .1 .0) ≡ 600 = search needs in
+    sym (length-take-le _ _ (omega (arith, within (c .before))))
 
 explained-requires : tie.Need-explained-requires
 explained-requires c κs = search needs
@@ -68,12 +76,14 @@ returns-2 : tie.Need-returns-2
 returns-2 c =
     let a = c .before .before .before .before .before .before .before .before .before .before .before .args in
     let h = c .before .before .before .before .before .before .hex-bytes .ensures in
-    rw (body-by (a .line .now) (a .at) (c .before .before .before .before .before .before .before .before .if1 .left) _ (bytes-got _ _ _ _ (sym (c .before .before .before .n .given .1) ∙ h .0) (h .1) .0)) (c .explained .ensures)
+    let e = bytes-got _ _ _ _ (sym (c .before .before .before .n .given .1) ∙ h .0) (h .1) .0 in
+    rw (body-by (a .line .now) (a .at) (c .before .before .before .before .before .before .before .before .if1 .left) _ e) (c .explained .ensures)
 
 returns-3 : tie.Need-returns-3
 returns-3 c =
     let a = c .before .before .before .before .before .before .before .before .before .before .args in
-    rw (body-by (a .line .now) (a .at) (c .before .before .before .before .before .before .before .if1 .left) _ (not-hex 600 _ (sym (c .before .before .enum-told .given .1) ∙ c .before .before .before .before .before .hex-bytes .ensures .0))) (c .bad2 .ensures)
+    let e = sym (c .before .before .enum-told .given .1) ∙ c .before .before .before .before .before .hex-bytes .ensures .0 in
+    rw (body-by (a .line .now) (a .at) (c .before .before .before .before .before .before .before .if1 .left) _ (not-hex 600 _ e)) (c .bad2 .ensures)
 
 returns-4 : tie.Need-returns-4
 returns-4 c =
