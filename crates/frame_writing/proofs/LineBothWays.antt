@@ -18,7 +18,8 @@ use Rattle.wire.specs.Body.{reservedAddr, fcsOf, readBody}
 use Rattle.laying.specs.Laying.{bodyWith, bodyOf}
 use Rattle.wire.specs.declared.Body.{Body}
 use Rattle.laying.proofs.LineBytes.{unstuffed-bytes}
-use Rattle.laying.proofs.BodyBothWays.{takenBody, held-data, laid-then-read, Exact, read-then-laid}
+use Rattle.wire.proofs.StuffedRead.{takenBody, held-data}
+use Rattle.laying.proofs.BodyBothWays.{laid-then-read, Exact, read-then-laid}
 use Rattle.frame_kinds.specs.Kinds.{dataLen, dataIn, appOf}
 use Rattle.frame_reading.specs.Reading.{readApp, receivedBody, readFrame, readingAnswer, answerToFrame}
 use Rattle.frame_writing.specs.Writing.{fieldsFit, fits, frameLine, writtenOf}

@@ -1,73 +1,29 @@
 -- A body that was laid down is read back, and a body that is read is the one that would be laid down. Assumes nothing.
-use mathlib.Core.Path.{_≡_, refl, sym, ap, ap₂, _∙_, subst}
+use mathlib.Core.Path.{_≡_, refl, sym, ap, _∙_, subst}
 use mathlib.Core.Bool.{Bool, true, false}
-use mathlib.Core.List.{List, [], _∷_, _++_, append-assoc}
+use mathlib.Core.List.{List, [], _∷_, _++_}
 use mathlib.Core.Option.{Option, none, some}
 use Prim.Native.Nat.{ℕ, _+_, _-_, _*_, _/_, _%_, _≤_, _<_}
 use native.Mathlib.Omega.{arith}
 use native.Mathlib.Nat.{div-add-mod'}
 use lib.Dec.{eqb}
-use lib.ListN.{length, take, drop, getD, replicate, length-append, length-replicate}
-use lib.Seq.{sets, take-at, getD-at, getD-append-add, drop-cons, length-take-le}
-use borrow.Author.Tests.{eq-eqb, eqb-true}
-use Rattle.base.specs.Choice.{choose}
+use lib.ListN.{length, take, drop, getD}
+use lib.Seq.{drop-cons, length-take-le}
+use borrow.Author.Tests.{eqb-true}
 use Rattle.base.specs.Bytes.{Bytes}
-use Rattle.base.proofs.Sets.{sets-front}
 use Rattle.base.proofs.ListEnds.{last-two}
 use Rattle.base.proofs.Bytes.{bytes-tail, bytes-behind}
 use Rattle.base.proofs.Ranges.{in-range}
 use Rattle.stuffing.specs.Stuffing.{stuff, unstuff, plainOf}
-use Rattle.wire.specs.Body.{reservedAddr, fcsOf, verdictNumber, bodyAnswer, refusedBody, checkedBody, unstuffedBody, readBody, answerToBody}
+use Rattle.wire.specs.Body.{reservedAddr, fcsOf, verdictNumber, refusedBody, unstuffedBody, readBody, answerToBody}
 use Rattle.laying.specs.Laying.{bodyWith, bodyOf}
 use Rattle.wire.specs.declared.Verdict.{Verdict}
 use Rattle.wire.specs.declared.Verdict.the-variants.{Valid, Length, Stuffing, Size, Check, Reserved}
 use Rattle.wire.specs.declared.Body.{Body}
-use Rattle.stuffing.proofs.StuffingLaws.{stuff-least, stuff-most}
-use Rattle.stuffing.proofs.StuffingBothWays.{unstuff-stuff, stuff-unstuff}
-use Rattle.wire.proofs.BodyLaws.{unstuffed-wrong, unstuffed-short, unstuffed-long, unstuffed-fits, body-short, body-long, body-fits}
+use Rattle.stuffing.proofs.StuffingBothWays.{stuff-unstuff}
+use Rattle.wire.proofs.BodyLaws.{unstuffed-wrong, unstuffed-short, unstuffed-long, body-short, body-long, body-fits}
+use Rattle.wire.proofs.StuffedRead.{takenBody, byCheck, held-data, read-stuffed, valid-read, valid-answered}
 use Rattle.laying.proofs.LineBytes.{unstuffed-bytes}
-
--- data and the two bytes behind them, as they are held
-abbrev pub held : List ℕ → ℕ → ℕ → List ℕ
-held xs h l = sets (replicate 272 0) 0 (xs ++ (h ∷ l ∷ []))
-
-abbrev pub takenBody : ℕ → List ℕ → ℕ → ℕ → Body
-takenBody a xs h l = record { verdict = Valid; addr = a; bytes = held xs h l; len = length xs }
-
--- where the lengths are right, the answer goes by the check and the address
-abbrev answer : ℕ → List ℕ → ℕ → ℕ → Body
-answer a xs h l =
-    choose (eqb (fcsOf a xs) (h * 256 + l)) (choose (reservedAddr a) (refusedBody Reserved) (takenBody a xs h l)) (refusedBody Check)
-
-module _ (xs : List ℕ) (h l : ℕ) (most : length xs ≤ 269) where
-  held-is : held xs h l ≡ xs ++ (h ∷ l ∷ drop (length (xs ++ (h ∷ l ∷ []))) (replicate 272 0))
-  held-is =
-      sets-front (replicate 272 0) (xs ++ (h ∷ l ∷ [])) (omega (arith, length-append xs (h ∷ l ∷ []), length-replicate {A = ℕ} 272 0))
-      ∙ append-assoc xs (h ∷ l ∷ []) (drop (length (xs ++ (h ∷ l ∷ []))) (replicate 272 0))
-
-  pub held-data : take (length xs) (held xs h l) ≡ xs
-  held-data = ap (take (length xs)) held-is ∙ take-at xs (h ∷ l ∷ drop (length (xs ++ (h ∷ l ∷ []))) (replicate 272 0)) (length xs) refl
-
-  held-check : getD (held xs h l) (length xs) 0 * 256 + getD (held xs h l) (length xs + 1) 0 ≡ h * 256 + l
-  held-check =
-      let z : List ℕ = drop (length (xs ++ (h ∷ l ∷ []))) (replicate 272 0) in
-      ap (λ (q : List ℕ). getD q (length xs) 0 * 256 + getD q (length xs + 1) 0) held-is
-      ∙ ap₂ (λ (x y : ℕ). x * 256 + y) (getD-at xs h (l ∷ z) 0 (length xs) refl) (getD-append-add xs (h ∷ l ∷ z) 1 0)
-
-  checked-held : (a n : ℕ) → n ≡ length xs + 2 → checkedBody a (held xs h l) n ≡ answer a xs h l
-  unfolding checkedBody
-  checked-held a n e =
-      let m : n - 2 ≡ length xs = omega arith in
-      rw (m, held-data, held-check)
-
-  read-stuffed : (a : ℕ) → 4 ≤ length xs → readBody (a ∷ stuff (xs ++ (h ∷ l ∷ []))) ≡ answer a xs h l
-  read-stuffed a least =
-      let ys : List ℕ = xs ++ (h ∷ l ∷ []) in
-      let n : length ys ≡ length xs + 2 = length-append xs (h ∷ l ∷ []) in
-      sym (body-fits (a ∷ stuff ys) (omega (arith, n, stuff-least ys)) (omega (arith, n, stuff-most ys)))
-      ∙ ap (λ (o : Option (List ℕ)). unstuffedBody a (plainOf o)) (unstuff-stuff ys)
-      ∙ sym (unstuffed-fits a (plainOf (some ys)) refl (omega (arith, n)) (omega (arith, n)))
-      ∙ checked-held a (length ys) n
 
 -- ---- laid, then read
 module _ (a : ℕ) (xs : List ℕ) (r : reservedAddr a ≡ false) (least : 4 ≤ length xs) (most : length xs ≤ 269) where
@@ -75,7 +31,7 @@ module _ (a : ℕ) (xs : List ℕ) (r : reservedAddr a ≡ false) (least : 4 ≤
   unfolding bodyWith
   laid-then-read =
       let fcs : ℕ = fcsOf a xs in
-      read-stuffed xs (fcs / 256) (fcs % 256) most a least ∙ simp (eq-eqb fcs (fcs / 256 * 256 + fcs % 256) (sym (div-add-mod' fcs 256)), r)
+      valid-read xs (fcs / 256) (fcs % 256) most a least (sym (div-add-mod' fcs 256)) r
 
   pub laid-then-data : take (readBody (bodyOf a xs) .len) (readBody (bodyOf a xs) .bytes) ≡ xs
   laid-then-data =
@@ -83,9 +39,10 @@ module _ (a : ℕ) (xs : List ℕ) (r : reservedAddr a ≡ false) (least : 4 ≤
 
   -- answered 0, with the address and the data
   pub laid-then-answered : answerToBody (bodyOf a xs) ≡ (0, some (a, xs))
+  unfolding bodyWith
   laid-then-answered =
-      ap bodyAnswer laid-then-read
-      ∙ ap (λ (ys : List ℕ). (0, some (a, ys))) (held-data xs (fcsOf a xs / 256) (fcsOf a xs % 256) most)
+      let fcs : ℕ = fcsOf a xs in
+      valid-answered xs (fcs / 256) (fcs % 256) most a least (sym (div-add-mod' fcs 256)) r
 
 -- ---- read, then laid
 refused-not : (v : Verdict) (b : Body) → refusedBody v ≡ b → b .verdict ≡ Valid → (verdictNumber v ≡ 0 → ⊥) → ⊥
@@ -157,7 +114,7 @@ module _ (a h l : ℕ) (xs : List ℕ) (s : List ℕ) (e : s ≡ a ∷ stuff (xs
   exact : Bytes s → readBody s .verdict ≡ Valid → Exact s (readBody s)
   exact bs t = by (eqb (fcsOf a xs) (h * 256 + l)) (reservedAddr a) refl refl
     where
-      read : readBody s ≡ answer a xs h l
+      read : readBody s ≡ byCheck a xs h l
       read = ap readBody e ∙ read-stuffed xs h l most a least
 
       by : (p q : Bool) → eqb (fcsOf a xs) (h * 256 + l) ≡ p → reservedAddr a ≡ q → Exact s (readBody s)

@@ -12,7 +12,8 @@ use Rattle.base.specs.Choice.{choose}
 use Rattle.base.proofs.Choosing.{never, and-left, and-right}
 use Rattle.wire.specs.Body.{reservedAddr, fcsOf}
 use Rattle.laying.specs.Laying.{bodyOf}
-use Rattle.laying.proofs.BodyBothWays.{held-data, laid-then-read}
+use Rattle.wire.proofs.StuffedRead.{held-data}
+use Rattle.laying.proofs.BodyBothWays.{laid-then-read}
 use Rattle.frame_kinds.specs.Kinds.{dataLen, appOf}
 use Rattle.frame_kinds.specs.Sized.{Sized}
 use Rattle.frame_writing.specs.Writing.{fieldsFit, fits}

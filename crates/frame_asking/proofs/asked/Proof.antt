@@ -1,4 +1,4 @@
--- `asking::asked` meets its contract, by the line's first word. Assumes nothing.
+-- `frame_asking::asked` meets its contract, by the line's first word. Assumes nothing.
 use mathlib.Core.Path.{_≡_, sym, ap, _∙_}
 use Rattle.frame_words.specs.Words.{wordAt}
 use Rattle.frame_words.specs.Called.{called}

@@ -1,4 +1,4 @@
--- `asking::at_end` meets its contract. Assumes nothing.
+-- `frame_asking::at_end` meets its contract. Assumes nothing.
 use Rattle.frame_asking.proofs.OutcomeLaws.{end-more, end-here}
 use borrow.Author.Needs.{needs}
 use Rattle.frame_asking.proofs.at_end.Statement.{statement}

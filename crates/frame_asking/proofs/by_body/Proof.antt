@@ -1,4 +1,4 @@
--- `asking::by_body` meets its contract, by the result of reading hex digits. Assumes nothing.
+-- `frame_asking::by_body` meets its contract, by the result of reading hex digits. Assumes nothing.
 use mathlib.Core.Path.{_≡_, sym, _∙_}
 use Prim.Native.Nat.{_+_, _≤_}
 use native.Mathlib.Omega.{arith}

@@ -1,4 +1,4 @@
--- `asking::by_kind` meets its contract. Assumes nothing.
+-- `frame_asking::by_kind` meets its contract. Assumes nothing.
 use mathlib.Core.Path.{sym, _∙_}
 use native.Mathlib.Omega.{arith}
 use Rattle.frame_asking.proofs.OutcomeLaws.{kind-wants, kind-data, kind-plain}

@@ -1,4 +1,4 @@
--- `asking::with_data` meets its contract, by the result of reading hex digits. Assumes nothing.
+-- `frame_asking::with_data` meets its contract, by the result of reading hex digits. Assumes nothing.
 use mathlib.Core.Path.{_≡_, sym, _∙_}
 use mathlib.Core.Option.{some}
 use native.Mathlib.Omega.{arith}

@@ -1,4 +1,4 @@
--- `listed::has_port` meets its contract. Assumes nothing.
+-- `list_lines::has_port` meets its contract. Assumes nothing.
 use Rattle.list_lines.proofs.ListedLaws.{port-short, port-is}
 use borrow.Author.Needs.{needs}
 use Rattle.list_lines.proofs.has_port.Statement.{statement}

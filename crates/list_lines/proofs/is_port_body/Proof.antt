@@ -1,4 +1,4 @@
--- `listed::is_port_body` meets its contract. Assumes nothing.
+-- `list_lines::is_port_body` meets its contract. Assumes nothing.
 use Rattle.list_lines.specs.Listed.{isPortBody}
 use borrow.Author.Needs.{needs}
 use Rattle.list_lines.proofs.is_port_body.Statement.{statement}

@@ -1,4 +1,4 @@
--- `listed::is_silent` meets its contract. Assumes nothing.
+-- `list_lines::is_silent` meets its contract. Assumes nothing.
 use Rattle.list_lines.specs.Listed.{isSilent}
 use borrow.Author.Needs.{needs}
 use Rattle.list_lines.proofs.is_silent.Statement.{statement}

@@ -1,4 +1,4 @@
--- `listed::is_ticks_or_inputs` meets its contract. Assumes nothing.
+-- `list_lines::is_ticks_or_inputs` meets its contract. Assumes nothing.
 use Rattle.list_lines.specs.Listed.{isTicksOrInputs}
 use Rattle.frame_words.proofs.WordLaws.{word-first, first-length}
 use borrow.Author.Needs.{needs}

@@ -1,4 +1,4 @@
--- `listed::pairs_from` meets its contract: pairs that do not fit are pairs too. Assumes nothing.
+-- `list_lines::pairs_from` meets its contract: pairs that do not fit are pairs too. Assumes nothing.
 use mathlib.Core.Path.{sym, _∙_}
 use Rattle.list_lines.proofs.ListedLaws.{others-are-not, bytes-are-pairs, more-are-pairs}
 use borrow.Author.Needs.{needs}
