@@ -1,2 +1,4 @@
+mod TakenApart
+mod Opening
 pub mod Widths
 pub mod Tables
