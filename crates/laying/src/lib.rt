@@ -3,6 +3,7 @@
 ghost use mathlib.Core.Path.{_≡_};
 ghost use mathlib.Core.List.{_++_};
 ghost use Prim.Native.Nat.{_≤_};
+ghost use lib.Dec.{ltb};
 ghost use lib.ListN.{length, drop};
 ghost use lib.Seq.{sets};
 ghost use Rattle.laying.specs.Laying.{bodyWith, lineWith, lineOf, laidOf, leftBy, laidAnswer, answerToLaying};
@@ -39,6 +40,20 @@ fn line_len(addr: u8, data: &[u8], check: u16) -> usize
     3 + stuffing::stuffed_len(data) + stuffing::stuffed_len(&sent)
 }
 
+// Two flags, an address, and at most 269 bytes of data and two of FCS, which stuffing at most doubles.
+const LONGEST_LINE: usize = 545;
+
+// Whether a buffer is too short for that line. One that is long enough for any line needs no count.
+fn lacks_room(room: usize, addr: u8, data: &[u8], check: u16) -> bool
+    requires { ⌜ length (now «data») ≤ 269 ⌝ }
+    ensures { λ r. ⌜ r ≡ ltb room (length (lineWith check addr (now («data» .entry)))) ⌝ }
+{
+    if LONGEST_LINE <= room {
+        return false;
+    }
+    room < line_len(addr, data, check)
+}
+
 // The result of laying down: the length on the line, or number 5, 8 or 20.
 pub enum Laid {
     Sent(usize),
@@ -73,7 +88,7 @@ pub fn lay(buf: &mut [u8], addr: u8, data: &[u8]) -> Laid
         return Laid::Form;
     }
     let check = wire::fcs(addr, data);
-    if buf.len() < line_len(addr, data, check) {
+    if lacks_room(buf.len(), addr, data, check) {
         return Laid::Room;
     }
     Laid::Sent(lay_line(buf, addr, data, check))

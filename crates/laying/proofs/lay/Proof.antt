@@ -2,8 +2,10 @@
 use mathlib.Core.Path.{_≡_, refl, sym, ap, _∙_}
 use mathlib.Core.Bool.{false}
 use Prim.Native.Nat.{ℕ}
+use lib.Dec.{ltb}
 use lib.ListN.{length}
 use borrow.Author.Needs.{needs}
+use borrow.Author.Tests.{ltb-true, ltb-false}
 use Rattle.wire.specs.Body.{reservedAddr}
 use Rattle.laying.specs.Laying.{lineWith, lineOf, laidAnswer}
 use Rattle.wire.proofs.AnswerLaws.{beside-answer}
@@ -30,24 +32,24 @@ returns-3 c = beside-answer laidAnswer (laid-long _ _ _ (free (c .before .before
 fcs-requires : tie.Need-fcs-requires
 fcs-requires c κs = search needs
 
-line-len-requires : tie.Need-line-len-requires
-line-len-requires c κs = search needs
+lacks-room-requires : tie.Need-lacks-room-requires
+lacks-room-requires c κs = search needs
 
--- the computed length is that of the line with the right FCS
-line-is : (c : tie.After-line-len)
+-- the test is of the line with the right FCS
+room-is : (c : tie.After-lacks-room)
     → let a = c .before .before .before .before .before .before .before .before .args in
-    c .line-len .result ≡ length (lineOf (a .addr) (a .«data» .now))
-line-is c =
+    c .lacks-room .result ≡ ltb (length (a .buf .now)) (length (lineOf (a .addr) (a .«data» .now)))
+room-is c =
     let a = c .before .before .before .before .before .before .before .before .args in
-    c .line-len .ensures ∙ ap (λ (k : ℕ). length (lineWith k (a .addr) (a .«data» .now))) (c .before .fcs .ensures)
+    c .lacks-room .ensures ∙ ap (λ (k : ℕ). ltb (length (a .buf .now)) (length (lineWith k (a .addr) (a .«data» .now)))) (c .before .fcs .ensures)
 
 returns-4 : tie.Need-returns-4
 returns-4 c =
     let t = c .before .before .before in
-    beside-answer laidAnswer (laid-room _ _ _ (free (t .before .before)) (t .before .if2 .left) (t .if3 .left) (rw (line-is (c .before)) at (c .if4 .taken))) refl
+    beside-answer laidAnswer (laid-room _ _ _ (free (t .before .before)) (t .before .if2 .left) (t .if3 .left) (ltb-true _ _ (sym (room-is (c .before)) ∙ c .if4 .taken))) refl
 
 lay-line-requires : tie.Need-lay-line-requires
-lay-line-requires c κs = search needs
+lay-line-requires c κs = ltb-false _ _ (sym (c .before .before .lacks-room .ensures) ∙ c .before .if4 .left)
 
 same-length : tie.Need-same-length
 same-length c = search needs
@@ -59,7 +61,7 @@ returns-5 c =
     let f = r .before .before .fcs .ensures in
     let t = r .before .before .before in
     beside-answer laidAnswer
-    (rw (l .0, f) (laid-sent _ _ _ (free (t .before .before)) (t .before .if2 .left) (t .if3 .left) (rw (line-is (r .before)) at (r .if4 .left))))
+    (rw (l .0, f) (laid-sent _ _ _ (free (t .before .before)) (t .before .if2 .left) (t .if3 .left) (ltb-false _ _ (sym (room-is (r .before)) ∙ r .if4 .left))))
     (rw (l .0, ← f) (l .1))
 
 pub lay-spec : {M : Type 1} → statement M
@@ -71,7 +73,7 @@ lay-spec =
     returns-2
     returns-3
     fcs-requires
-    line-len-requires
+    lacks-room-requires
     returns-4
     lay-line-requires
     same-length
