@@ -1,6 +1,7 @@
 // The two CRCs of the bus: the frame check sequence (FCS) and the safety CRC. Both start at FFFFh, process the most
 // significant bit first and have no final change.
 ghost use mathlib.Core.Path.{_≡_};
+ghost use mathlib.Core.List.{_∷_};
 ghost use Rattle.crc.specs.Crc.{polyOf, crcBit, crcByte, crcFrom, crcOf};
 
 pub enum Poly {
@@ -63,4 +64,11 @@ pub fn crc_of(poly: Poly, s: &[u8]) -> u16
     ensures { λ r. ⌜ r ≡ crcOf poly (now (s .entry)) ⌝ }
 {
     crc_from(poly, START, s)
+}
+
+// The CRC of one byte and a slice after it: of a body, the address and the data.
+pub fn crc_headed(poly: Poly, head: u8, s: &[u8]) -> u16
+    ensures { λ r. ⌜ r ≡ crcOf poly (head ∷ now (s .entry)) ⌝ }
+{
+    crc_from(poly, crc_of(poly, &[head]), s)
 }

@@ -1,21 +1,14 @@
 -- The cases of reading a body, one law for each verdict. Assumes nothing.
-use mathlib.Core.Path.{_≡_, sym}
+use mathlib.Core.Path.{_≡_}
 use mathlib.Core.Bool.{true, false}
-use mathlib.Core.List.{List, [], _∷_}
+use mathlib.Core.List.{List}
 use Prim.Native.Nat.{ℕ, _+_, _-_, _*_, _≤_, _<_}
 use borrow.Author.Tests.{eq-eqb, ne-eqb, lt-ltb, le-ltb}
 use lib.ListN.{length, take, drop, getD}
-use Rattle.crc.specs.Crc.{polyOf, crcFrom, crcOf, from-append}
-use Rattle.crc.specs.declared.Poly.the-variants.{Fcs}
 use Rattle.stuffing.specs.Stuffing.{unstuff, plainOf}
 use Rattle.wire.specs.Body.{reservedAddr, fcsOf, refusedBody, checkedBody, unstuffedBody, readBody}
 use Rattle.stuffing.specs.declared.Unstuffed.{Unstuffed}
 use Rattle.wire.specs.declared.Verdict.the-variants.{Valid, Length, Stuffing, Size, Check, Reserved}
-
--- the FCS in two steps, the address first
-pub fcs-steps : (a : ℕ) (xs : List ℕ) → crcFrom (polyOf Fcs) (crcOf Fcs (a ∷ [])) xs ≡ fcsOf a xs
-unfolding fcsOf crcOf
-fcs-steps a xs = sym (from-append (polyOf Fcs) 0xFFFF (a ∷ []) xs)
 
 module _ (a : ℕ) (xs : List ℕ) (len check sent : ℕ) (c : check ≡ fcsOf a (take (len - 2) xs)) (s : sent ≡ getD xs (len - 2) 0 * 256 + getD xs (len - 2 + 1) 0) where
   pub checked-wrong : (check ≡ sent → ⊥) → refusedBody Check ≡ checkedBody a xs len

@@ -64,7 +64,7 @@ pub fn reserved(addr: u8) -> bool
 pub fn fcs(addr: u8, data: &[u8]) -> u16
     ensures { λ r. ⌜ r ≡ fcsOf addr (now («data» .entry)) ⌝ }
 {
-    crc::crc_from(Poly::Fcs, crc::crc_of(Poly::Fcs, &[addr]), data)
+    crc::crc_headed(Poly::Fcs, addr, data)
 }
 
 // Numbers 4 and 5. The FCS follows the data it covers, high byte first.
