@@ -7,15 +7,19 @@ use Prim.Native.Nat.{ℕ, _+_, _*_, _≤_, _<_}
 use native.Mathlib.Omega.{arith}
 use native.Mathlib.Nat.{zero-add, add-zero, add-suc, suc-add}
 use native.Mathlib.Numerals.{add-one}
+use types.Run.{OneOf, miss}
+use denote.Enum.Declared.{tagOf}
 use borrow.Author.Tests.{eq-eqb, ne-eqb, eqb-true, eqb-false}
 use lib.Dec.{eqb}
 use lib.ListN.{length, replicate, drop, getD, set, length-append, drop-of-length-le}
 use lib.Seq.{sets, drop-cons}
 use Rattle.base.proofs.Sets.{sets-append}
+use Rattle.base.specs.Choice.{choose}
 use Rattle.stuffing.specs.Stuffing.{stuffByte, stuff, meaningOf, prepend, before, atEnd, unstuffFrom, plainOf}
 use Rattle.stuffing.specs.declared.Unstuffed.{Unstuffed}
 use Rattle.stuffing.specs.declared.Meaning.{Meaning}
 use Rattle.stuffing.specs.declared.Meaning.the-variants.{Plain, Escape, Wrong}
+use Rattle.stuffing.proofs.Meaning.{the-type}
 
 -- the three cases of a byte
 pub byte-flag : (b : ℕ) → b ≡ 0x7E → stuffByte b ≡ 0x7D ∷ 0x5E ∷ []
@@ -105,6 +109,16 @@ unstuff-turn s i e h = rw (drop-cons s i 0, add-one)
 pub unstuff-end : (s : List ℕ) (i : ℕ) (e : Bool) → length s ≤ i → unstuffFrom (drop i s) e ≡ atEnd e
 unfolding unstuffFrom
 unstuff-end s i e h = rw drop-of-length-le
+
+-- after an escape, a byte that is not plain is wrong
+pub escaped-wrong : (b : ℕ) → OneOf (1 ∷ 2 ∷ []) (tagOf the-type (meaningOf true b)) → meaningOf true b ≡ Wrong
+unfolding meaningOf
+escaped-wrong b = by (eqb b 0x5E) (eqb b 0x5D)
+  where
+    by : (t u : Bool) → (let m = choose t (Plain 0x7E) (choose u (Plain 0x7D) Wrong) in OneOf (1 ∷ 2 ∷ []) (tagOf the-type m) → m ≡ Wrong)
+    by true u k = absurd (miss (1 ∷ 2 ∷ []) 0 tt k)
+    by false true k = absurd (miss (1 ∷ 2 ∷ []) 0 tt k)
+    by false false k = refl
 
 -- the three ways of a turn
 module _ (s : List ℕ) (i : ℕ) (e : Bool) (h : i < length s) (bytes : List ℕ) (len : ℕ) (z : Unstuffed) (inv : extend bytes len (unstuffFrom (drop i s) e) ≡ z) where

@@ -1,8 +1,9 @@
 // Stuffing: 7Eh is sent as 7Dh 5Eh, 7Dh as 7Dh 5Dh.
 ghost use mathlib.Core.Path.{_≡_};
+ghost use mathlib.Core.Bool.{true};
 ghost use mathlib.Core.Option.{none};
-ghost use Prim.Native.Nat.{_+_, _≤_};
-ghost use lib.ListN.{length};
+ghost use Prim.Native.Nat.{_+_, _<_, _≤_};
+ghost use lib.ListN.{length, set};
 ghost use lib.Seq.{sets};
 ghost use Rattle.stuffing.specs.Stuffing.{stuffByte, stuff, meaningOf, unstuff, plainOf};
 
@@ -121,34 +122,52 @@ fn wrong() -> Unstuffed
     }
 }
 
-// The received bytes without their escapes.
+// Stores a byte; past the array's end nothing. Where the place is known to fit it is not tested.
+fn store(bytes: &mut [u8; 272], fits: bool, at: usize, b: u8)
+    requires { ⌜ (length (now bytes) ≡ 272) × (fits ≡ true → at < 272) ⌝ }
+    ensures { λ _. ⌜ now (bytes .exit) ≡ set (now (bytes .entry)) at b ⌝ }
+{
+    if fits {
+        bytes[at] = b;
+        return;
+    }
+    if at < 272 {
+        bytes[at] = b;
+    }
+}
+
+// The received bytes without their escapes. A source of at most 272 bytes fits, so the compiler gives it a loop of its own.
 pub fn unstuff_all(s: &[u8]) -> Unstuffed
     ensures { λ r. ⌜ r ≡ plainOf (unstuff (now (s .entry))) ⌝ }
 {
     let mut bytes: [u8; 272] = [0; 272];
     let mut len: usize = 0;
-    let mut escaped = false;
     let mut i: usize = 0;
     while i < s.len() {
-        match meaning_of(escaped, s[i]) {
+        match meaning_of(false, s[i]) {
             Meaning::Plain(b) => {
-                if len < 272 {
-                    bytes[len] = b;
-                }
-                len += 1;
-                escaped = false;
+                store(&mut bytes, s.len() <= 272, len, b);
             }
             Meaning::Escape => {
-                escaped = true;
+                i += 1;
+                if s.len() <= i {
+                    return wrong();
+                }
+                match meaning_of(true, s[i]) {
+                    Meaning::Plain(b) => {
+                        store(&mut bytes, s.len() <= 272, len, b);
+                    }
+                    _ => {
+                        return wrong();
+                    }
+                }
             }
             Meaning::Wrong => {
                 return wrong();
             }
         }
+        len += 1;
         i += 1;
-    }
-    if escaped {
-        return wrong();
     }
     Unstuffed {
         right: true,

@@ -1,22 +1,23 @@
 -- `stuffing::unstuff_all` meets its contract. The invariant: what the locals hold, followed by what the rest gives, is the whole's. Assumes nothing.
 use mathlib.Core.Path.{_≡_, refl, ap, sym, _∙_}
 use mathlib.Core.Logic.{⊎-elim}
-use Prim.Native.Nat.{_-_, _≤_}
+use mathlib.Core.Bool.{true, false}
+use Prim.Native.Nat.{_+_, _-_, _≤_}
 use native.Mathlib.Omega.{arith}
 use lib.ListN.{length, drop, length-set}
-use lib.Seq.{set-out}
 use borrow.Author.Needs.{needs}
+use borrow.Author.Tests.{leb-true}
 use Rattle.stuffing.specs.Stuffing.{unstuff, unstuffFrom, plainOf}
-use Rattle.stuffing.proofs.StuffingLaws.{extend, extend-start, extend-end, unstuff-end, turn-plain, turn-escape, turn-wrong}
+use Rattle.stuffing.proofs.StuffingLaws.{extend, extend-start, extend-end, unstuff-end, turn-plain, turn-escape, turn-wrong, escaped-wrong}
 use Rattle.stuffing.proofs.unstuff_all.Statement.{statement}
 use Rattle.stuffing.proofs.unstuff_all.Tie as tie
 
 abbrev Inv-loop : tie.InvT-loop
-Inv-loop s bytes₀ len₀ escaped₀ i₀ bytes len escaped i =
-    (i ≤ length s) × (len ≤ i) × (length bytes ≡ 272) × (extend bytes len (unstuffFrom (drop i s) escaped) ≡ plainOf (unstuff s))
+Inv-loop s bytes₀ len₀ i₀ bytes len i =
+    (i ≤ length s) × (len ≤ i) × (length bytes ≡ 272) × (extend bytes len (unstuffFrom (drop i s) false) ≡ plainOf (unstuff s))
 
 abbrev μ-loop : tie.MeasureT-loop
-μ-loop s bytes₀ len₀ escaped₀ i₀ bytes len escaped i = length s - i
+μ-loop s bytes₀ len₀ i₀ bytes len i = length s - i
 
 loop-holds : tie.Need-loop-holds Inv-loop μ-loop
 unfolding unstuff
@@ -31,70 +32,107 @@ meaning-of-requires c κs = search needs
 enum-known-b : tie.Need-enum-known-b Inv-loop μ-loop
 enum-known-b c = search needs
 
-array-write-bytes : tie.Need-array-write-bytes Inv-loop μ-loop
-array-write-bytes c = search needs
-
-add-len : tie.Need-add-len Inv-loop μ-loop
-add-len c = search needs
+store-requires : tie.Need-store-requires Inv-loop μ-loop
+store-requires c κs =
+    let b = c .before .before .before .before .before .before .before in
+    (b .loop .inv .2, λ h. omega (arith, leb-true (length (b .before .before .args .s .now)) 272 h))
 
 enum-told : tie.Need-enum-told Inv-loop μ-loop
 enum-told c = search needs
 
-enum-told-2 : tie.Need-enum-told-2 Inv-loop μ-loop
-enum-told-2 c = search needs
+add-i : tie.Need-add-i Inv-loop μ-loop
+add-i c = search needs
 
 wrong-requires : tie.Need-wrong-requires Inv-loop μ-loop
 wrong-requires c κs = search needs
 
 returns : tie.Need-returns Inv-loop μ-loop
 returns c =
-    let b = c .before .before .before .before .before .before in
+    let b = c .before .before .before .before .before .before .before in
     let l = b .loop in
-    c .wrong .ensures
-    ∙ turn-wrong (b .before .before .args .s .now) (l .i) (l .escaped) (search needs) (l .bytes) (l .len) _ (l .inv .3)
-    (sym (c .before .before .before .meaning-of .ensures) ∙ c .before .enum-told2 .given .1)
+    let s = b .before .before .args .s .now in
+    let e = turn-escape s (l .i) false (search needs) (l .bytes) (l .len) _ (l .inv .3)
+    (sym (c .before .before .before .before .meaning-of .ensures) ∙ c .before .before .enum-told .given .1) in
+    c .wrong .ensures ∙ rw (unstuff-end s (l .i + 1) true (omega arith)) at e
 
-add-i : tie.Need-add-i Inv-loop μ-loop
-add-i c = search needs
+shared-slice-read-meaning-of-2 : tie.Need-shared-slice-read-meaning-of-2 Inv-loop μ-loop
+shared-slice-read-meaning-of-2 c = search needs
 
-loop-less : tie.Need-loop-less Inv-loop μ-loop
-loop-less c = search needs
+meaning-of-requires-2 : tie.Need-meaning-of-requires-2 Inv-loop μ-loop
+meaning-of-requires-2 c κs = search needs
 
-loop-again : tie.Need-loop-again Inv-loop μ-loop
-loop-again c =
-    let l = c .before .before .before .before .loop in
-    let s = c .before .before .before .before .before .before .args .s .now in
-    let m = sym (c .before .meaning-of .ensures) in
-    ⊎-elim
-    (λ w.
-    let e = w .4 ∙ ⊎-elim (λ v. v .1) (λ v. v .1 ∙ sym (set-out (l .bytes) (l .len) _ (omega arith))) (w .3 .came) in (
-      search needs,
-      rw (w .5) (omega arith),
-      ap length e ∙ simp length-set (l .inv .2),
-      rw (e, w .5, w .6) (turn-plain s (l .i) (l .escaped) (search needs) (l .bytes) (l .len) _ (l .inv .3) _ (m ∙ w .1 .given .1)),
-    ))
-    (λ w. (
-      search needs,
-      rw (w .3) (omega arith),
-      ap length (w .2) ∙ l .inv .2,
-      rw (w .2, w .3, w .4) (turn-escape s (l .i) (l .escaped) (search needs) (l .bytes) (l .len) _ (l .inv .3) (m ∙ w .1 .given .1)),
-    ))
-    (c .match .came)
+enum-known-b-2 : tie.Need-enum-known-b-2 Inv-loop μ-loop
+enum-known-b-2 c = search needs
+
+store-requires-2 : tie.Need-store-requires-2 Inv-loop μ-loop
+store-requires-2 c κs =
+    let b = c .before .before .before .before .before .before .before .before .before .before .before .before in
+    (b .loop .inv .2, λ h. omega (arith, leb-true (length (b .before .before .args .s .now)) 272 h))
 
 wrong-requires-2 : tie.Need-wrong-requires-2 Inv-loop μ-loop
 wrong-requires-2 c κs = search needs
 
 returns-2 : tie.Need-returns-2 Inv-loop μ-loop
 returns-2 c =
-    let b = c .before .before .before in
-    let z = unstuff-end (b .before .before .args .s .now) (b .loop .i) (b .loop .escaped) (search needs) in
-    c .wrong2 .ensures ∙ rw (z, c .before .if2 .taken) at (b .loop .inv .3)
+    let b = c .before .before .before .before .before .before .before .before .before .before in
+    let l = b .loop in
+    let s = b .before .before .args .s .now in
+    let n = c .before .before .meaning-of2 .ensures in
+    let e = turn-escape s (l .i) false (search needs) (l .bytes) (l .len) _ (l .inv .3)
+    (sym (c .before .before .before .before .before .before .before .meaning-of .ensures) ∙ c .before .before .before .before .before .enum-told .given .1) in
+    c .wrong2 .ensures ∙ turn-wrong s (l .i + 1) true (search needs) (l .bytes) (l .len) _ e (escaped-wrong _ (rw n at (c .before .match2 .keys2)))
+
+enum-told-2 : tie.Need-enum-told-2 Inv-loop μ-loop
+enum-told-2 c = search needs
+
+wrong-requires-3 : tie.Need-wrong-requires-3 Inv-loop μ-loop
+wrong-requires-3 c κs = search needs
 
 returns-3 : tie.Need-returns-3 Inv-loop μ-loop
 returns-3 c =
-    let b = c .before .before in
-    let z = unstuff-end (b .before .before .args .s .now) (b .loop .i) (b .loop .escaped) (search needs) in
-    sym (extend-end _ _) ∙ rw (z, c .if2 .left) at (b .loop .inv .3)
+    let b = c .before .before .before .before .before .before in
+    let l = b .loop in
+    c .wrong3 .ensures
+    ∙ turn-wrong (b .before .before .args .s .now) (l .i) false (search needs) (l .bytes) (l .len) _ (l .inv .3)
+    (sym (c .before .before .before .meaning-of .ensures) ∙ c .before .enum-told2 .given .1)
+
+add-len : tie.Need-add-len Inv-loop μ-loop
+add-len c = search needs
+
+add-i-2 : tie.Need-add-i-2 Inv-loop μ-loop
+add-i-2 c = ⊎-elim (λ w. omega arith) (λ w. omega arith) (c .before .match .came)
+
+loop-less : tie.Need-loop-less Inv-loop μ-loop
+loop-less c = ⊎-elim (λ w. omega arith) (λ w. omega arith) (c .before .match .came)
+
+loop-again : tie.Need-loop-again Inv-loop μ-loop
+loop-again c =
+    let l = c .before .before .before .before .before .loop in
+    let s = c .before .before .before .before .before .before .before .args .s .now in
+    let m = sym (c .before .before .meaning-of .ensures) in
+    ⊎-elim
+    (λ w.
+    let e = w .5 ∙ w .4 .ensures in (
+      omega arith,
+      omega arith,
+      ap length e ∙ simp length-set (l .inv .2),
+      rw (e, w .6) (turn-plain s (l .i) false (search needs) (l .bytes) (l .len) _ (l .inv .3) _ (m ∙ w .1 .given .1)),
+    ))
+    (λ w.
+    let e = w .10 ∙ w .9 .ensures in
+    let q = turn-escape s (l .i) false (search needs) (l .bytes) (l .len) _ (l .inv .3) (m ∙ w .1 .given .1) in (
+      omega arith,
+      omega arith,
+      ap length e ∙ simp length-set (l .inv .2),
+      rw (e, w .11) (turn-plain s (l .i + 1) true (omega arith) (l .bytes) (l .len) _ q _ (sym (w .4 .ensures) ∙ w .6 .given .1)),
+    ))
+    (c .before .match .came)
+
+returns-4 : tie.Need-returns-4 Inv-loop μ-loop
+returns-4 c =
+    let b = c .before in
+    let z = unstuff-end (b .before .before .args .s .now) (b .loop .i) false (search needs) in
+    sym (extend-end _ _) ∙ rw z at (b .loop .inv .3)
 
 pub unstuff-all-spec : {M : Type 1} → statement M
 unstuff-all-spec =
@@ -106,15 +144,22 @@ unstuff-all-spec =
     shared-slice-read-meaning-of
     meaning-of-requires
     enum-known-b
-    array-write-bytes
-    add-len
+    store-requires
     enum-told
-    enum-told-2
+    add-i
     wrong-requires
     returns
-    add-i
-    loop-less
-    loop-again
+    shared-slice-read-meaning-of-2
+    meaning-of-requires-2
+    enum-known-b-2
+    store-requires-2
     wrong-requires-2
     returns-2
-    returns-3)
+    enum-told-2
+    wrong-requires-3
+    returns-3
+    add-len
+    add-i-2
+    loop-less
+    loop-again
+    returns-4)
