@@ -3,7 +3,6 @@ ghost use lib.ListN.{length};
 ghost use Rattle.rules.specs.Calls.{tickCall, inputCall, frameCall, Answers, AnswersFrame};
 use crate::frame_call::on_frame;
 use agent_replies::sending::Handled;
-use agent_replies::sending::send;
 use agent_replies::sending::unsent;
 use agent_state::answers::ACCEPTED;
 use agent_state::answers::HOST_INPUT;
@@ -75,5 +74,5 @@ pub fn frame(a: Agent, port: u8, body: &[u8], reply: &mut [u8]) -> Handled
     if !known {
         return unsent(HOST_INPUT, a);
     }
-    send(on_frame(port, a, body), reply)
+    on_frame(port, a, body, reply)
 }

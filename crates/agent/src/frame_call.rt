@@ -3,14 +3,19 @@ ghost use mathlib.Core.Path.{_≡_};
 ghost use Prim.Native.Nat.{_≤_};
 ghost use lib.ListN.{length};
 ghost use Rattle.frame_kinds.specs.Kinds.{dataIn};
-ghost use Rattle.rules.specs.FrameCall.{onKind, served, isSil4, agentRead, onRead, isOwn, onApp, onBody, onFrame};
+ghost use Rattle.rules.specs.FrameCall.{onKind, served, isSil4, agentRead, onRead, isOwn, onApp, onFrame};
+ghost use Rattle.rules.specs.Replies.{sent};
 ghost use Rattle.agent_replies.specs.Fitting.{Fitting};
+ghost use Rattle.agent_replies.specs.Handling.{Handles};
 ghost use Rattle.agent.specs.Whole.{Whole, WholeRead};
 use agent_assignments::on_sid;
 use agent_assignments::on_tid;
 use agent_marks::marks::format_marked;
 use agent_marks::marks::line_marked;
 use agent_replies::replies::does;
+use agent_replies::sending::Handled;
+use agent_replies::sending::send;
+use agent_replies::sending::unsent;
 use agent_requests::Ask;
 use agent_requests::on_request;
 use agent_state::answers::ELSEWHERE;
@@ -27,9 +32,8 @@ use frame_reading::read_app;
 use frame_reading::read_number;
 use rules::Agent;
 use rules::Deed;
-use wire::Body;
 use wire::Verdict;
-use wire::read_body;
+use wire::read_into;
 use wire::verdict_number;
 
 // Where the data of a write start: after ADD.
@@ -133,25 +137,19 @@ fn on_app(port: u8, a: Agent, addr: u8, s: &[u8]) -> Deed
     on_read(port, a, agent_read(addr, s), s)
 }
 
-// 1 to 4 are the line's, 5 another station's.
-fn on_body(port: u8, a: Agent, b: Body) -> Deed
-    requires { ⌜ b .len ≤ 272 ⌝ }
-    ensures { λ r. ⌜ (r ≡ onBody port a b) × Fitting (r .reply) ⌝ }
+// A body received on a port: 1 to 4 are the line's, 5 another station's. For these nothing is to be sent.
+pub fn on_frame(port: u8, a: Agent, body: &[u8], reply: &mut [u8]) -> Handled
+    requires { ⌜ 545 ≤ length (now reply) ⌝ }
+    ensures { λ r. ⌜ Handles (sent (onFrame port a (now (body .entry)))) r (now (reply .entry)) (now (reply .exit)) ⌝ }
 {
-    let verdict = b.verdict;
-    let addr = b.addr;
-    let bytes = b.bytes;
-    let len = b.len;
+    let mut bytes: [u8; 272] = [0; 272];
+    let found = read_into(body, &mut bytes);
+    let verdict = found.verdict;
+    let addr = found.addr;
+    let len = found.len;
     match verdict {
-        Verdict::Valid => on_app(port, a, addr, &bytes[..len]),
-        Verdict::Reserved => does(RESERVED, a),
-        _ => does(verdict_number(verdict), line_marked(a)),
+        Verdict::Valid => send(on_app(port, a, addr, &bytes[..len]), reply),
+        Verdict::Reserved => unsent(RESERVED, a),
+        _ => unsent(verdict_number(verdict), line_marked(a)),
     }
-}
-
-// A body received on a port.
-pub fn on_frame(port: u8, a: Agent, body: &[u8]) -> Deed
-    ensures { λ r. ⌜ (r ≡ onFrame port a (now (body .entry))) × Fitting (r .reply) ⌝ }
-{
-    on_body(port, a, read_body(body))
 }

@@ -7,9 +7,8 @@ use lib.ListN.{length}
 use Rattle.crc.specs.Crc.{topBit, crcBit, crcBits, crcByte, crcFrom, crcOf}
 use Rattle.wire.proofs.BodyLaws.{body-fits, unstuffed-wrong}
 use Rattle.wire.specs.Body.{readBody, unstuffedBody, verdictNumber}
-use Rattle.stuffing.specs.Stuffing.{stuffByte, stuff, unstuff, plainOf}
+use Rattle.stuffing.specs.Stuffing.{stuffByte, stuff, unstuff, plainOf, Unstuffed}
 use Rattle.wire.specs.declared.Body.{Body}
-use Rattle.stuffing.specs.declared.Unstuffed.{Unstuffed}
 use Rattle.bench.specs.Cases.{Bench, p1, p2, p3, p4, p5, p6, p7, p8, p9, p10, p11, p12, p13, p14, Says′}
 use Rattle.bench.proofs.PowerUpTicks.{first-cycle}
 use Rattle.bench.proofs.RunCases.{silence-19, commands-49, wraps, last-output, long-reads, sixty-four}

@@ -15,8 +15,7 @@ use lib.ListN.{length, replicate, drop, getD, set, length-append, drop-of-length
 use lib.Seq.{sets, drop-cons}
 use Rattle.base.proofs.Sets.{sets-append}
 use Rattle.base.specs.Choice.{choose}
-use Rattle.stuffing.specs.Stuffing.{stuffByte, stuff, meaningOf, prepend, before, atEnd, unstuffFrom, plainOf}
-use Rattle.stuffing.specs.declared.Unstuffed.{Unstuffed}
+use Rattle.stuffing.specs.Stuffing.{stuffByte, stuff, meaningOf, prepend, before, atEnd, unstuffFrom, plainOf, Unstuffed}
 use Rattle.stuffing.specs.declared.Meaning.{Meaning}
 use Rattle.stuffing.specs.declared.Meaning.the-variants.{Plain, Escape, Wrong}
 use Rattle.stuffing.proofs.Meaning.{the-type}

@@ -9,7 +9,7 @@ use lib.Seq.{sets}
 use Rattle.base.specs.Choice.{choose}
 use Rattle.stuffing.specs.declared.Meaning.{Meaning}
 use Rattle.stuffing.specs.declared.Meaning.the-variants.{Plain, Escape, Wrong}
-use Rattle.stuffing.specs.declared.Unstuffed.{Unstuffed}
+use Rattle.stuffing.specs.declared.Count.{Count}
 
 -- 7Eh is sent as 7Dh 5Eh, 7Dh as 7Dh 5Dh
 unfoldable pub stuffByte : ℕ → List ℕ
@@ -47,7 +47,17 @@ unstuffFrom (b ∷ bs) escaped = before (meaningOf escaped b) (λ e. unstuffFrom
 unfoldable pub unstuff : List ℕ → Option (List ℕ)
 unstuff s = unstuffFrom s false
 
--- how the code holds that: the first 272 bytes, filled up with zeros, and the count
+-- the received bytes as they were before stuffing: whether they are right, the first 272 of them, and how many there are
+pub record Unstuffed : Type 0 where
+  pub right : Bool
+  pub bytes : List ℕ
+  pub len : ℕ
+
+-- how the code holds that: what it tells, and a lent array
+abbrev pub unstuffedIn : Count → List ℕ → Unstuffed
+unstuffedIn c xs = record { right = c .right; bytes = xs; len = c .len }
+
+-- filled up with zeros; nothing if a byte is wrong
 abbrev pub plainOf : Option (List ℕ) → Unstuffed
 plainOf none = record { right = false; bytes = replicate 272 0; len = 0 }
 plainOf (some xs) = record { right = true; bytes = sets (replicate 272 0) 0 xs; len = length xs }

@@ -3,9 +3,9 @@ ghost use mathlib.Core.Path.{_≡_};
 ghost use mathlib.Core.Bool.{true};
 ghost use mathlib.Core.Option.{none};
 ghost use Prim.Native.Nat.{_+_, _<_, _≤_};
-ghost use lib.ListN.{length, set};
+ghost use lib.ListN.{length, replicate, set};
 ghost use lib.Seq.{sets};
-ghost use Rattle.stuffing.specs.Stuffing.{stuffByte, stuff, meaningOf, unstuff, plainOf};
+ghost use Rattle.stuffing.specs.Stuffing.{stuffByte, stuff, meaningOf, unstuff, unstuffedIn, plainOf};
 
 pub const FLAG: u8 = 0x7E;
 
@@ -104,20 +104,26 @@ fn meaning_of(escaped: bool, b: u8) -> Meaning
     Meaning::Plain(b)
 }
 
-// The received bytes as they were before stuffing: the first 272 of them, and how many there are.
-pub struct Unstuffed {
+// What unstuffing tells of the received bytes: whether they are right, and how many there are without their escapes.
+pub struct Count {
     pub right: bool,
-    pub bytes: [u8; 272],
     pub len: usize,
 }
 
-// Nothing, because a byte is wrong.
-fn wrong() -> Unstuffed
-    ensures { λ r. ⌜ r ≡ plainOf none ⌝ }
+// An array for unstuffed bytes, with none in it yet.
+pub fn no_bytes() -> [u8; 272]
+    ensures { λ r. ⌜ r ≡ replicate 272 0 ⌝ }
 {
-    Unstuffed {
+    [0; 272]
+}
+
+// Nothing, because a byte is wrong.
+fn wrong(bytes: &mut [u8; 272]) -> Count
+    ensures { λ r. ⌜ unstuffedIn r (now (bytes .exit)) ≡ plainOf none ⌝ }
+{
+    *bytes = no_bytes();
+    Count {
         right: false,
-        bytes: [0; 272],
         len: 0,
     }
 }
@@ -136,42 +142,39 @@ fn store(bytes: &mut [u8; 272], fits: bool, at: usize, b: u8)
     }
 }
 
-// The received bytes without their escapes. A source of at most 272 bytes fits, so the compiler gives it a loop of its own.
-pub fn unstuff_all(s: &[u8]) -> Unstuffed
-    ensures { λ r. ⌜ r ≡ plainOf (unstuff (now (s .entry))) ⌝ }
+// The received bytes without their escapes, into an array that the caller lends: the first 272 of them. A source of at most 272
+// bytes fits, so the compiler gives it a loop of its own.
+pub fn unstuff_into(s: &[u8], bytes: &mut [u8; 272]) -> Count
+    requires { ⌜ now bytes ≡ replicate 272 0 ⌝ }
+    ensures { λ r. ⌜ unstuffedIn r (now (bytes .exit)) ≡ plainOf (unstuff (now (s .entry))) ⌝ }
 {
-    let mut bytes: [u8; 272] = [0; 272];
     let mut len: usize = 0;
     let mut i: usize = 0;
     while i < s.len() {
         match meaning_of(false, s[i]) {
             Meaning::Plain(b) => {
-                store(&mut bytes, s.len() <= 272, len, b);
+                store(bytes, s.len() <= 272, len, b);
             }
             Meaning::Escape => {
                 i += 1;
                 if s.len() <= i {
-                    return wrong();
+                    return wrong(bytes);
                 }
                 match meaning_of(true, s[i]) {
                     Meaning::Plain(b) => {
-                        store(&mut bytes, s.len() <= 272, len, b);
+                        store(bytes, s.len() <= 272, len, b);
                     }
                     _ => {
-                        return wrong();
+                        return wrong(bytes);
                     }
                 }
             }
             Meaning::Wrong => {
-                return wrong();
+                return wrong(bytes);
             }
         }
         len += 1;
         i += 1;
     }
-    Unstuffed {
-        right: true,
-        bytes,
-        len,
-    }
+    Count { right: true, len }
 }

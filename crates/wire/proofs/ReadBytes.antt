@@ -10,11 +10,10 @@ use Rattle.base.specs.Bytes.{Bytes}
 use Rattle.base.proofs.Bytes.{bytes-nil, bytes-cons, bytes-take, bytes-drop, bytes-replicate}
 use Rattle.base.proofs.Choosing.{by-test}
 use Rattle.base.proofs.Stored.{stored-bytes}
-use Rattle.stuffing.specs.Stuffing.{meaningOf, before, unstuffFrom, unstuff, plainOf}
+use Rattle.stuffing.specs.Stuffing.{meaningOf, before, unstuffFrom, unstuff, plainOf, Unstuffed}
 use Rattle.wire.specs.Body.{fcsOf, reservedAddr, refusedBody, checkedBody, unstuffedBody, readBody}
 use Rattle.stuffing.specs.declared.Meaning.{Meaning}
 use Rattle.stuffing.specs.declared.Meaning.the-variants.{Plain, Escape, Wrong}
-use Rattle.stuffing.specs.declared.Unstuffed.{Unstuffed}
 use Rattle.wire.specs.declared.Verdict.{Verdict}
 use Rattle.wire.specs.declared.Verdict.the-variants.{Length, Stuffing, Size, Check, Reserved}
 use Rattle.wire.specs.declared.Body.{Body}

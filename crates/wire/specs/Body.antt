@@ -9,11 +9,11 @@ use Rattle.base.specs.Choice.{choose, within}
 use Rattle.crc.specs.Crc.{crcOf}
 use Rattle.crc.specs.declared.Poly.the-variants.{Fcs}
 use Rattle.wire.specs.Answer.{Answer}
-use Rattle.stuffing.specs.Stuffing.{unstuff, plainOf}
-use Rattle.stuffing.specs.declared.Unstuffed.{Unstuffed}
+use Rattle.stuffing.specs.Stuffing.{unstuff, plainOf, Unstuffed}
 use Rattle.wire.specs.declared.Verdict.{Verdict}
 use Rattle.wire.specs.declared.Verdict.the-variants.{Valid, Length, Stuffing, Size, Check, Reserved}
 use Rattle.wire.specs.declared.Body.{Body}
+use Rattle.wire.specs.declared.Found.{Found}
 
 -- document 01's number for each verdict and, with 0, the address and the application data
 abbrev pub verdictAnswer : Verdict → ℕ → List ℕ → Answer (ℕ × List ℕ)
@@ -31,6 +31,10 @@ verdictNumber v = verdictAnswer v 0 [] .0
 -- the answer that a body holds
 abbrev pub bodyAnswer : Body → Answer (ℕ × List ℕ)
 bodyAnswer b = verdictAnswer (b .verdict) (b .addr) (take (b .len) (b .bytes))
+
+-- how the code holds a body: what it found, and a lent array
+abbrev pub bodyIn : Found → List ℕ → Body
+bodyIn f xs = record { verdict = f .verdict; addr = f .addr; bytes = xs; len = f .len }
 
 -- 00h, 7Dh, 7Eh, 91h to EFh and F9h to FEh are reserved
 unfoldable pub reservedAddr : ℕ → Bool

@@ -1,9 +1,13 @@
 // What is on the line, read: the body between two flags, which is address, stuffed application data and stuffed FCS.
 ghost use mathlib.Core.Path.{_≡_};
-ghost use Prim.Native.Nat.{_≤_};
-ghost use Rattle.wire.specs.Body.{verdictNumber, bodyAnswer, reservedAddr, fcsOf, refusedBody, checkedBody, unstuffedBody, readBody, answerToBody};
+ghost use Prim.Native.Nat.{_+_, _*_, _≤_};
+ghost use lib.ListN.{length, take};
+ghost use Rattle.stuffing.specs.Stuffing.{unstuffedIn};
+ghost use Rattle.wire.specs.Body.{verdictNumber, bodyAnswer, reservedAddr, fcsOf, bodyIn, refusedBody, checkedBody, unstuffedBody, readBody, answerToBody};
 use crc::Poly;
-use stuffing::Unstuffed;
+use stuffing::Count;
+use stuffing::no_bytes;
+use stuffing::unstuff_into;
 
 // The answer to a body: it is valid, or one of the numbers 1 to 5.
 pub enum Verdict {
@@ -37,13 +41,20 @@ pub struct Body {
     pub len: usize,
 }
 
-fn refused(verdict: Verdict) -> Body
-    ensures { λ r. ⌜ r ≡ refusedBody verdict ⌝ }
+// The same without its bytes, which are in an array that the caller lends.
+pub struct Found {
+    pub verdict: Verdict,
+    pub addr: u8,
+    pub len: usize,
+}
+
+fn refused(verdict: Verdict, bytes: &mut [u8; 272]) -> Found
+    ensures { λ r. ⌜ bodyIn r (now (bytes .exit)) ≡ refusedBody verdict ⌝ }
 {
-    Body {
+    *bytes = no_bytes();
+    Found {
         verdict,
         addr: 0,
-        bytes: [0; 272],
         len: 0,
     }
 }
@@ -67,57 +78,87 @@ pub fn fcs(addr: u8, data: &[u8]) -> u16
     crc::crc_headed(Poly::Fcs, addr, data)
 }
 
+// The same of the first `n` bytes of a slice.
+fn fcs_before(addr: u8, s: &[u8], n: usize) -> u16
+    requires { ⌜ n ≤ length (now s) ⌝ }
+    ensures { λ r. ⌜ r ≡ fcsOf addr (take n (now (s .entry))) ⌝ }
+{
+    fcs(addr, &s[..n])
+}
+
+// The number in two bytes, high byte first.
+fn word(high: u8, low: u8) -> u16
+    ensures { λ r. ⌜ r ≡ high * 256 + low ⌝ }
+{
+    (high as u16) * 256 + (low as u16)
+}
+
 // Numbers 4 and 5. The FCS follows the data it covers, high byte first.
-fn checked(addr: u8, bytes: [u8; 272], len: usize) -> Body
-    requires { ⌜ (6 ≤ len) × (len ≤ 271) ⌝ }
-    ensures { λ r. ⌜ r ≡ checkedBody addr bytes len ⌝ }
+fn checked(addr: u8, bytes: &mut [u8; 272], len: usize) -> Found
+    requires { ⌜ (6 ≤ len) × (len ≤ 271) × (length (now bytes) ≡ 272) ⌝ }
+    ensures { λ r. ⌜ bodyIn r (now (bytes .exit)) ≡ checkedBody addr (now (bytes .entry)) len ⌝ }
 {
     let n = len - 2;
-    let high = bytes[n] as u16;
-    let low = bytes[n + 1] as u16;
-    if fcs(addr, &bytes[..n]) != high * 256 + low {
-        return refused(Verdict::Check);
+    let sent = word(bytes[n], bytes[n + 1]);
+    if fcs_before(addr, bytes, n) != sent {
+        return refused(Verdict::Check, bytes);
     }
     if reserved(addr) {
-        return refused(Verdict::Reserved);
+        return refused(Verdict::Reserved, bytes);
     }
-    Body {
+    Found {
         verdict: Verdict::Valid,
         addr,
-        bytes,
         len: n,
     }
 }
 
 // Numbers 2 and 3. The 7 to 272 bytes of document 01 include the address and the FCS; `len` leaves out the address.
-fn unstuffed_body(addr: u8, u: Unstuffed) -> Body
-    ensures { λ r. ⌜ r ≡ unstuffedBody addr u ⌝ }
+fn unstuffed_body(addr: u8, c: Count, bytes: &mut [u8; 272]) -> Found
+    requires { ⌜ length (now bytes) ≡ 272 ⌝ }
+    ensures { λ r. ⌜ bodyIn r (now (bytes .exit)) ≡ unstuffedBody addr (unstuffedIn c (now (bytes .entry))) ⌝ }
 {
-    let right = u.right;
-    let len = u.len;
-    let bytes = u.bytes;
+    let right = c.right;
+    let len = c.len;
     if !right {
-        return refused(Verdict::Stuffing);
+        return refused(Verdict::Stuffing, bytes);
     }
     if len < 6 {
-        return refused(Verdict::Size);
+        return refused(Verdict::Size, bytes);
     }
     if 271 < len {
-        return refused(Verdict::Size);
+        return refused(Verdict::Size, bytes);
     }
     checked(addr, bytes, len)
 }
 
-// A body as it came from the line.
+// A body as it came from the line, with its bytes in the lent array.
+pub fn read_into(body: &[u8], bytes: &mut [u8; 272]) -> Found
+    ensures { λ r. ⌜ bodyIn r (now (bytes .exit)) ≡ readBody (now (body .entry)) ⌝ }
+{
+    if body.len() < 7 {
+        return refused(Verdict::Length, bytes);
+    }
+    if 543 < body.len() {
+        return refused(Verdict::Length, bytes);
+    }
+    *bytes = no_bytes();
+    let addr = body[0];
+    let c = unstuff_into(&body[1..], bytes);
+    unstuffed_body(addr, c, bytes)
+}
+
+// The same by value.
 pub fn read_body(body: &[u8]) -> Body
     ensures { λ r. ⌜ (r ≡ readBody (now (body .entry))) × (bodyAnswer r ≡ answerToBody (now (body .entry))) ⌝ }
 {
-    if body.len() < 7 {
-        return refused(Verdict::Length);
+    let mut bytes = no_bytes();
+    let found = read_into(body, &mut bytes);
+    let verdict = found.verdict;
+    Body {
+        verdict,
+        addr: found.addr,
+        bytes,
+        len: found.len,
     }
-    if 543 < body.len() {
-        return refused(Verdict::Length);
-    }
-    let addr = body[0];
-    unstuffed_body(addr, stuffing::unstuff_all(&body[1..]))
 }

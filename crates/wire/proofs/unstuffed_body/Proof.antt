@@ -10,27 +10,31 @@ refused-requires : tie.Need-refused-requires
 refused-requires c κs = search needs
 
 returns : tie.Need-returns
-returns c = c .refused .ensures ∙ unstuffed-wrong _ _ (not-true _ (c .before .if1 .taken))
+returns c = c .refused .ensures ∙ unstuffed-wrong _ _ (not-true _ (c .before .before .if1 .taken))
 
 refused-requires-2 : tie.Need-refused-requires-2
 refused-requires-2 c κs = search needs
 
 returns-2 : tie.Need-returns-2
-returns-2 c = c .refused2 .ensures ∙ unstuffed-short _ _ (not-false _ (c .before .before .if1 .left)) (c .before .if2 .taken)
+returns-2 c =
+    let b = c .before .before in
+    c .refused2 .ensures ∙ unstuffed-short _ _ (not-false _ (b .before .if1 .left)) (b .if2 .taken)
 
 refused-requires-3 : tie.Need-refused-requires-3
 refused-requires-3 c κs = search needs
 
 returns-3 : tie.Need-returns-3
 returns-3 c =
-    c .refused3 .ensures ∙ unstuffed-long _ _ (not-false _ (c .before .before .before .if1 .left)) (c .before .before .if2 .left) (c .before .if3 .taken)
+    let b = c .before .before in
+    c .refused3 .ensures ∙ unstuffed-long _ _ (not-false _ (b .before .before .if1 .left)) (b .before .if2 .left) (b .if3 .taken)
 
 checked-requires : tie.Need-checked-requires
 checked-requires c κs = search needs
 
 returns-4 : tie.Need-returns-4
 returns-4 c =
-    c .checked .ensures ∙ unstuffed-fits _ _ (not-false _ (c .before .before .before .if1 .left)) (c .before .before .if2 .left) (c .before .if3 .left)
+    let b = c .before .before in
+    c .checked .ensures ∙ unstuffed-fits _ _ (not-false _ (b .before .before .if1 .left)) (b .before .if2 .left) (b .if3 .left)
 
 pub unstuffed-body-spec : {M : Type 1} → statement M
 unstuffed-body-spec =

@@ -43,19 +43,17 @@ returns-3 c =
 on-frame-requires : tie.Need-on-frame-requires
 on-frame-requires c κs = search needs
 
-send-requires : tie.Need-send-requires
-send-requires c κs = search needs
-
 same-length : tie.Need-same-length
 same-length c = search needs
 
 returns-4 : tie.Need-returns-4
 unfolding frameCall
 returns-4 c =
-    let s = c .before .before .before .before .before .before .before .before in
+    let e = c .before .before .before .before in
+    let s = e .before .before .before in
     let port = s .before .before .before .args .port in
-    rw (← (s .sound .ensures), not-false (s .sound .result) (c .before .before .before .before .before .before .before .if1 .left), le-ltb _ _ (c .before .before .before .before .before .before .if2 .left), not-false (eqb port 1 || eqb port 2) (c .before .before .before .before .before .if3 .left), ← (c .before .before .before .before .on-frame .ensures .0))
-    (c .before .before .send .ensures)
+    rw (← (s .sound .ensures), not-false (s .sound .result) (e .before .before .if1 .left), le-ltb _ _ (e .before .if2 .left), not-false (eqb port 1 || eqb port 2) (e .if3 .left))
+    (c .before .before .on-frame .ensures)
 
 pub frame-spec : {M : Type 1} → statement M
 frame-spec =
@@ -69,6 +67,5 @@ frame-spec =
     unsent-requires-3
     returns-3
     on-frame-requires
-    send-requires
     same-length
     returns-4)

@@ -1,4 +1,4 @@
--- `stuffing::unstuff_all` meets its contract. The invariant: what the locals hold, followed by what the rest gives, is the whole's. Assumes nothing.
+-- `stuffing::unstuff_into` meets its contract. The invariant: what the locals hold, followed by what the rest gives, is the whole's. Assumes nothing.
 use mathlib.Core.Path.{_≡_, refl, ap, sym, _∙_}
 use mathlib.Core.Logic.{⊎-elim}
 use mathlib.Core.Bool.{true, false}
@@ -9,8 +9,8 @@ use borrow.Author.Needs.{needs}
 use borrow.Author.Tests.{leb-true}
 use Rattle.stuffing.specs.Stuffing.{unstuff, unstuffFrom, plainOf}
 use Rattle.stuffing.proofs.StuffingLaws.{extend, extend-start, extend-end, unstuff-end, turn-plain, turn-escape, turn-wrong, escaped-wrong}
-use Rattle.stuffing.proofs.unstuff_all.Statement.{statement}
-use Rattle.stuffing.proofs.unstuff_all.Tie as tie
+use Rattle.stuffing.proofs.unstuff_into.Statement.{statement}
+use Rattle.stuffing.proofs.unstuff_into.Tie as tie
 
 abbrev Inv-loop : tie.InvT-loop
 Inv-loop s bytes₀ len₀ i₀ bytes len i =
@@ -21,7 +21,9 @@ abbrev μ-loop : tie.MeasureT-loop
 
 loop-holds : tie.Need-loop-holds Inv-loop μ-loop
 unfolding unstuff
-loop-holds c = (search needs, search needs, refl, extend-start (unstuff (c .before .args .s .now)))
+loop-holds c =
+    let b = c .before in
+    (search needs, search needs, ap length (b .pre), rw (b .pre) (extend-start (unstuff (b .args .s .now))))
 
 shared-slice-read-meaning-of : tie.Need-shared-slice-read-meaning-of Inv-loop μ-loop
 shared-slice-read-meaning-of c = search needs
@@ -48,11 +50,12 @@ wrong-requires c κs = search needs
 
 returns : tie.Need-returns Inv-loop μ-loop
 returns c =
-    let b = c .before .before .before .before .before .before .before in
+    let d = c .before in
+    let b = d .before .before .before .before .before .before .before in
     let l = b .loop in
     let s = b .before .before .args .s .now in
     let e = turn-escape s (l .i) false (search needs) (l .bytes) (l .len) _ (l .inv .3)
-    (sym (c .before .before .before .before .meaning-of .ensures) ∙ c .before .before .enum-told .given .1) in
+    (sym (d .before .before .before .before .meaning-of .ensures) ∙ d .before .before .enum-told .given .1) in
     c .wrong .ensures ∙ rw (unstuff-end s (l .i + 1) true (omega arith)) at e
 
 shared-slice-read-meaning-of-2 : tie.Need-shared-slice-read-meaning-of-2 Inv-loop μ-loop
@@ -74,13 +77,14 @@ wrong-requires-2 c κs = search needs
 
 returns-2 : tie.Need-returns-2 Inv-loop μ-loop
 returns-2 c =
-    let b = c .before .before .before .before .before .before .before .before .before .before in
+    let d = c .before in
+    let b = d .before .before .before .before .before .before .before .before .before .before in
     let l = b .loop in
     let s = b .before .before .args .s .now in
-    let n = c .before .before .meaning-of2 .ensures in
+    let n = d .before .before .meaning-of2 .ensures in
     let e = turn-escape s (l .i) false (search needs) (l .bytes) (l .len) _ (l .inv .3)
-    (sym (c .before .before .before .before .before .before .before .meaning-of .ensures) ∙ c .before .before .before .before .before .enum-told .given .1) in
-    c .wrong2 .ensures ∙ turn-wrong s (l .i + 1) true (search needs) (l .bytes) (l .len) _ e (escaped-wrong _ (rw n at (c .before .match2 .keys2)))
+    (sym (d .before .before .before .before .before .before .before .meaning-of .ensures) ∙ d .before .before .before .before .before .enum-told .given .1) in
+    c .wrong2 .ensures ∙ turn-wrong s (l .i + 1) true (search needs) (l .bytes) (l .len) _ e (escaped-wrong _ (rw n at (d .before .match2 .keys2)))
 
 enum-told-2 : tie.Need-enum-told-2 Inv-loop μ-loop
 enum-told-2 c = search needs
@@ -90,11 +94,12 @@ wrong-requires-3 c κs = search needs
 
 returns-3 : tie.Need-returns-3 Inv-loop μ-loop
 returns-3 c =
-    let b = c .before .before .before .before .before .before in
+    let d = c .before in
+    let b = d .before .before .before .before .before .before in
     let l = b .loop in
     c .wrong3 .ensures
     ∙ turn-wrong (b .before .before .args .s .now) (l .i) false (search needs) (l .bytes) (l .len) _ (l .inv .3)
-    (sym (c .before .before .before .meaning-of .ensures) ∙ c .before .enum-told2 .given .1)
+    (sym (d .before .before .before .meaning-of .ensures) ∙ d .before .enum-told2 .given .1)
 
 add-len : tie.Need-add-len Inv-loop μ-loop
 add-len c = search needs
@@ -134,8 +139,8 @@ returns-4 c =
     let z = unstuff-end (b .before .before .args .s .now) (b .loop .i) false (search needs) in
     sym (extend-end _ _) ∙ rw z at (b .loop .inv .3)
 
-pub unstuff-all-spec : {M : Type 1} → statement M
-unstuff-all-spec =
+pub unstuff-into-spec : {M : Type 1} → statement M
+unstuff-into-spec =
     tie.close
     (tie.spec
     Inv-loop
