@@ -1,17 +1,23 @@
 // The calls: the host's numbers, 19, 20 and 21, come first.
 ghost use lib.ListN.{length};
 ghost use Rattle.rules.specs.Calls.{tickCall, inputCall, frameCall, Answers, AnswersFrame};
-use crate::frame_call::on_frame;
+use crate::frame_call::on_app;
+use agent_marks::marks::line_marked;
 use agent_replies::sending::Handled;
+use agent_replies::sending::send;
 use agent_replies::sending::unsent;
 use agent_state::answers::ACCEPTED;
 use agent_state::answers::HOST_INPUT;
 use agent_state::answers::REPLY_ROOM;
+use agent_state::answers::RESERVED;
 use agent_state::answers::UNSOUND;
 use agent_state::registers::IMAGE;
 use agent_state::sound::sound;
 use agent_ticks::inputs::with_inputs;
 use rules::Agent;
+use wire::Verdict;
+use wire::read_into;
+use wire::verdict_number;
 
 // The answer, and the agent afterwards.
 pub struct Told {
@@ -60,7 +66,8 @@ pub fn inputs(a: Agent, xs: &[u8]) -> Told
 // The minimum length of the reply buffer, in bytes.
 const LEAST_ROOM: usize = 545;
 
-// A body received on a port, and the reply buffer, whose bytes past what is sent keep their value.
+// A body received on a port, and the reply buffer, whose bytes past what is sent keep their value. After the host's numbers, 1 to
+// 4 are the line's and 5 another station's: for these nothing is to be sent, so they go past `send`.
 pub fn frame(a: Agent, port: u8, body: &[u8], reply: &mut [u8]) -> Handled
     ensures { λ r. ⌜ AnswersFrame (frameCall a port (now (body .entry)) (length (now (reply .entry)))) (r .answer) (r .agent) (r .sent) (now (reply .entry)) (now (reply .exit)) ⌝ }
 {
@@ -74,5 +81,14 @@ pub fn frame(a: Agent, port: u8, body: &[u8], reply: &mut [u8]) -> Handled
     if !known {
         return unsent(HOST_INPUT, a);
     }
-    on_frame(port, a, body, reply)
+    let mut bytes: [u8; 272] = [0; 272];
+    let found = read_into(body, &mut bytes);
+    let verdict = found.verdict;
+    let addr = found.addr;
+    let len = found.len;
+    match verdict {
+        Verdict::Valid => send(on_app(port, a, addr, &bytes[..len]), reply),
+        Verdict::Reserved => unsent(RESERVED, a),
+        _ => unsent(verdict_number(verdict), line_marked(a)),
+    }
 }

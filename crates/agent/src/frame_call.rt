@@ -1,26 +1,19 @@
-// The frame call: numbers 1 to 9, then what the kind of frame does.
+// Application data of a body that was read: numbers 6 to 9, then what the kind of frame does.
 ghost use mathlib.Core.Path.{_≡_};
 ghost use Prim.Native.Nat.{_≤_};
 ghost use lib.ListN.{length};
 ghost use Rattle.frame_kinds.specs.Kinds.{dataIn};
-ghost use Rattle.rules.specs.FrameCall.{onKind, served, isSil4, agentRead, onRead, isOwn, onApp, onFrame};
-ghost use Rattle.rules.specs.Replies.{sent};
+ghost use Rattle.rules.specs.FrameCall.{onKind, served, isSil4, agentRead, onRead, isOwn, onApp};
 ghost use Rattle.agent_replies.specs.Fitting.{Fitting};
-ghost use Rattle.agent_replies.specs.Handling.{Handles};
 ghost use Rattle.agent.specs.Whole.{Whole, WholeRead};
 use agent_assignments::on_sid;
 use agent_assignments::on_tid;
 use agent_marks::marks::format_marked;
-use agent_marks::marks::line_marked;
 use agent_replies::replies::does;
-use agent_replies::sending::Handled;
-use agent_replies::sending::send;
-use agent_replies::sending::unsent;
 use agent_requests::Ask;
 use agent_requests::on_request;
 use agent_state::answers::ELSEWHERE;
 use agent_state::answers::FORM;
-use agent_state::answers::RESERVED;
 use agent_state::answers::TYP;
 use agent_state::registers::TID;
 use agent_sync::on_sync;
@@ -32,9 +25,6 @@ use frame_reading::read_app;
 use frame_reading::read_number;
 use rules::Agent;
 use rules::Deed;
-use wire::Verdict;
-use wire::read_into;
-use wire::verdict_number;
 
 // Where the data of a write start: after ADD.
 const DATA_PLACE: usize = 12;
@@ -127,7 +117,7 @@ fn is_own(a: Agent, addr: u8) -> bool
     (addr == tid) | (addr == 0x90) | (addr == 0xFF)
 }
 
-fn on_app(port: u8, a: Agent, addr: u8, s: &[u8]) -> Deed
+pub fn on_app(port: u8, a: Agent, addr: u8, s: &[u8]) -> Deed
     requires { ⌜ length (now s) ≤ 272 ⌝ }
     ensures { λ r. ⌜ (r ≡ onApp port a addr (now (s .entry))) × Fitting (r .reply) ⌝ }
 {
@@ -135,21 +125,4 @@ fn on_app(port: u8, a: Agent, addr: u8, s: &[u8]) -> Deed
         return does(ELSEWHERE, a);
     }
     on_read(port, a, agent_read(addr, s), s)
-}
-
-// A body received on a port: 1 to 4 are the line's, 5 another station's. For these nothing is to be sent.
-pub fn on_frame(port: u8, a: Agent, body: &[u8], reply: &mut [u8]) -> Handled
-    requires { ⌜ 545 ≤ length (now reply) ⌝ }
-    ensures { λ r. ⌜ Handles (sent (onFrame port a (now (body .entry)))) r (now (reply .entry)) (now (reply .exit)) ⌝ }
-{
-    let mut bytes: [u8; 272] = [0; 272];
-    let found = read_into(body, &mut bytes);
-    let verdict = found.verdict;
-    let addr = found.addr;
-    let len = found.len;
-    match verdict {
-        Verdict::Valid => send(on_app(port, a, addr, &bytes[..len]), reply),
-        Verdict::Reserved => unsent(RESERVED, a),
-        _ => unsent(verdict_number(verdict), line_marked(a)),
-    }
 }
