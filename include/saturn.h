@@ -22,7 +22,7 @@
  * - x86-64 with SSE2 and the System V calling convention. It uses SSE registers and the red zone: on bare metal enable SSE
  *   before the first call, and let no interrupt use the 128 bytes below the stack pointer.
  * - memcpy and memset only: no heap, no other library.
- * - 4,000 bytes of stack in the deepest call (measured, not proved; docs/PROVED.md, 'Figures').
+ * - 4,016 bytes of stack in the deepest call (measured, not proved; docs/PROVED.md, 'Figures').
  * It writes no static data. Agents may run in parallel, each with its own buffers. */
 #ifndef SATURN_H
 #define SATURN_H

@@ -1,6 +1,6 @@
 -- The laws of the CRC for the two polynomials of the bus: each holds for every polynomial and is cited here for both. Assumes nothing.
-use mathlib.Core.Path.{_≡_}
-use mathlib.Core.List.{List, _++_, zipWith}
+use mathlib.Core.Path.{_≡_, refl}
+use mathlib.Core.List.{List, _∷_, _++_, zipWith}
 use Prim.Native.Nat.{ℕ, _*_, _/_, _%_, _^_, _<_}
 use lib.Bits.{bitXor}
 use lib.ListN.{length}
@@ -15,6 +15,11 @@ module _ (poly : Poly) where
   pub append : (xs ys : List ℕ) → crcOf poly (xs ++ ys) ≡ crcFrom (polyOf poly) (crcOf poly xs) ys
   unfolding crcOf
   append xs ys = from-append (polyOf poly) crcStart xs ys
+
+  -- one byte, and the bytes after it
+  pub headed : (h : ℕ) (xs : List ℕ) → crcFrom (polyOf poly) (crcByte (polyOf poly) crcStart h) xs ≡ crcOf poly (h ∷ xs)
+  unfolding crcOf crcFrom
+  headed h xs = refl
 
   -- linear: registers and lists of the same length are added bit by bit
   pub linear : (c d : ℕ) (xs ys : List ℕ) → length xs ≡ length ys → crcFrom (polyOf poly) (bitXor c d) (zipWith bitXor xs ys) ≡ bitXor (crcFrom (polyOf poly) c xs) (crcFrom (polyOf poly) d ys)

@@ -2,7 +2,14 @@
 // significant bit first and have no final change.
 ghost use mathlib.Core.Path.{_≡_};
 ghost use mathlib.Core.List.{_∷_};
-ghost use Rattle.crc.specs.Crc.{polyOf, crcBit, crcByte, crcFrom, crcOf};
+ghost use Prim.Native.Nat.{ℕ};
+ghost use lib.ListN.{getD};
+ghost use Rattle.crc.specs.Crc.{polyOf, crcByte, crcFrom, crcOf};
+ghost use Rattle.crc.specs.Table.{tableOf};
+use crate::tables::fcs_table;
+use crate::tables::safety_table;
+
+mod tables;
 
 pub enum Poly {
     Fcs,
@@ -12,51 +19,47 @@ pub enum Poly {
 // The register before the first byte.
 pub const START: u16 = 0xFFFF;
 
-// A polynomial's terms of degree below 16.
-fn terms(poly: Poly) -> u16
-    ensures { λ r. ⌜ r ≡ polyOf poly ⌝ }
+fn entry(table: &[u16; 256], n: u8) -> u16
+    ensures { λ r. ⌜ r ≡ getD (now (table .entry)) n 0 ⌝ }
 {
-    match poly {
-        Poly::Fcs => 0x1021,
-        Poly::Safety => 0x90D9,
-    }
+    table[n as usize]
 }
 
-// One bit: a shift, and an exclusive or with the polynomial if a one was shifted out.
-fn shift_bit(crc: u16, terms: u16) -> u16
-    ensures { λ r. ⌜ r ≡ crcBit terms crc ⌝ }
+// One byte, by a polynomial's table: the register's low byte moves up, and the entry for its high byte and the byte is added
+// (exclusive or).
+fn shift_byte(crc: u16, byte: u8, table: &[u16; 256]) -> u16
+    ensures { λ r. ⌜ ((p : ℕ) → now (table .entry) ≡ tableOf p → r ≡ crcByte p crc byte) ⌝ }
 {
-    if crc & 0x8000 == 0 {
-        crc << 1
-    } else {
-        (crc << 1) ^ terms
-    }
+    (crc << 8) ^ entry(table, ((crc >> 8) as u8) ^ byte)
 }
 
-fn shift_byte(crc: u16, byte: u8, terms: u16) -> u16
-    ensures { λ r. ⌜ r ≡ crcByte terms crc byte ⌝ }
+// The bytes of a slice, by the same table.
+fn shift_bytes(register: u16, s: &[u8], table: &[u16; 256]) -> u16
+    ensures { λ r. ⌜ ((p : ℕ) → now (table .entry) ≡ tableOf p → r ≡ crcFrom p register (now (s .entry))) ⌝ }
 {
-    let mut c = crc ^ ((byte as u16) << 8);
+    let mut crc = register;
     let mut i: usize = 0;
-    while i < 8 {
-        c = shift_bit(c, terms);
+    while i < s.len() {
+        crc = shift_byte(crc, s[i], table);
         i += 1;
     }
-    c
+    crc
 }
 
 // The register after the bytes of a slice, starting from a given register.
 pub fn crc_from(poly: Poly, register: u16, s: &[u8]) -> u16
     ensures { λ r. ⌜ r ≡ crcFrom (polyOf poly) register (now (s .entry)) ⌝ }
 {
-    let terms = terms(poly);
-    let mut crc = register;
-    let mut i: usize = 0;
-    while i < s.len() {
-        crc = shift_byte(crc, s[i], terms);
-        i += 1;
+    match poly {
+        Poly::Fcs => {
+            let table = fcs_table();
+            shift_bytes(register, s, &table)
+        }
+        Poly::Safety => {
+            let table = safety_table();
+            shift_bytes(register, s, &table)
+        }
     }
-    crc
 }
 
 // The CRC of a slice.
@@ -70,5 +73,14 @@ pub fn crc_of(poly: Poly, s: &[u8]) -> u16
 pub fn crc_headed(poly: Poly, head: u8, s: &[u8]) -> u16
     ensures { λ r. ⌜ r ≡ crcOf poly (head ∷ now (s .entry)) ⌝ }
 {
-    crc_from(poly, crc_of(poly, &[head]), s)
+    match poly {
+        Poly::Fcs => {
+            let table = fcs_table();
+            shift_bytes(shift_byte(START, head, &table), s, &table)
+        }
+        Poly::Safety => {
+            let table = safety_table();
+            shift_bytes(shift_byte(START, head, &table), s, &table)
+        }
+    }
 }
