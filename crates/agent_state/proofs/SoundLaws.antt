@@ -4,7 +4,7 @@ use mathlib.Core.Bool.{Bool, true, false, not, _&&_, _||_, Bool·beq}
 use mathlib.Core.List.{List}
 use Prim.Native.Nat.{ℕ, _+_, _*_, _≤_, _<_}
 use native.Mathlib.Numerals.{add-one}
-use borrow.Author.Tests.{le-leb, lt-leb}
+use borrow.Author.Tests.{le-leb, lt-leb, ne-eqb}
 use lib.Bits.{bitAnd}
 use lib.Dec.{eqb, leb, ltb}
 use lib.ListN.{getD}
@@ -24,10 +24,10 @@ pub settings-law : (a : Agent) (free : Bool) → free ≡ assignable (reg a tidA
 unfolding settingsSound
 settings-law a free p = rw p
 
-pub sources-law : (a : Agent) (apart below : Bool) (sid : ℕ) → a .count ≤ 8 → apart ≡ distinct (a .known) (a .count) → below ≡ below24 (a .known) (a .count) → sid ≡ sidOf a
-    → (apart && below && Bool·beq (eqb (a .count) 0) (eqb sid nobody)) ≡ sourcesSound a
+pub sources-law : (a : Agent) (fit : Bool) (sid : ℕ) → a .count ≤ 8 → fit ≡ (distinct (a .known) (a .count) && below24 (a .known) (a .count)) → sid ≡ sidOf a
+    → (fit && Bool·beq (eqb (a .count) 0) (eqb sid nobody)) ≡ sourcesSound a
 unfolding sourcesSound
-sources-law a apart below sid h p q r = rw (le-leb (a .count) 8 h, p, q, r)
+sources-law a fit sid h p r = rw (le-leb (a .count) 8 h, p, r)
 
 pub sources-many : (a : Agent) → 8 < a .count → false ≡ sourcesSound a
 unfolding sourcesSound
@@ -57,7 +57,24 @@ pub fallback-law : (a : Agent) (zero : Bool) → zero ≡ outputsZero (a .regs) 
 unfolding fallbackSound
 fallback-law a zero p = rw p
 
-pub sound-law : (a : Agent) (settings sources counters run fallback : Bool) → settings ≡ settingsSound a → sources ≡ sourcesSound a → counters ≡ countersSound a
-    → run ≡ runSound a → fallback ≡ fallbackSound a → (settings && sources && counters && (run || fallback)) ≡ sound a
-unfolding sound
-sound-law a settings sources counters run fallback p q r s t = rw (p, q, r, s, t)
+-- the mode decides which of the two is asked
+no-fallback : (a : Agent) → a .mode ≡ inRun → fallbackSound a ≡ false
+unfolding fallbackSound
+no-fallback a e = rw e refl
+
+no-run : (a : Agent) → (a .mode ≡ inRun → ⊥) → runSound a ≡ false
+unfolding runSound
+no-run a e = rw (ne-eqb (a .mode) inRun e) refl
+
+or-none : (b : Bool) → (b || false) ≡ b
+or-none true = refl
+or-none false = refl
+
+module _ (a : Agent) (settings sources counters : Bool) (p : settings ≡ settingsSound a) (q : sources ≡ sourcesSound a) (r : counters ≡ countersSound a) where
+  pub sound-run : (run : Bool) → a .mode ≡ inRun → run ≡ runSound a → (settings && sources && counters && run) ≡ sound a
+  unfolding sound
+  sound-run run e s = rw (p, q, r, s, no-fallback a e, or-none (runSound a))
+
+  pub sound-fallback : (fallback : Bool) → (a .mode ≡ inRun → ⊥) → fallback ≡ fallbackSound a → (settings && sources && counters && fallback) ≡ sound a
+  unfolding sound
+  sound-fallback fallback e t = rw (p, q, r, t, no-run a e)

@@ -1,5 +1,5 @@
-// When a state is sound (document 01, "Who causes which number"), part by part. The tests are joined without branches,
-// in the order of the definitions.
+// When a state is sound (document 01, "Who causes which number"), part by part. The tests of a part are joined without
+// branches, in the order of the definitions; the mode alone decides which of the last two parts is asked.
 ghost use mathlib.Core.Path.{_≡_};
 ghost use Rattle.rules.specs.Sound.{settingsSound, sourcesSound, countersSound, outputsZero, runSound, fallbackSound, sound};
 use crate::registers::CNF_CYC;
@@ -12,9 +12,8 @@ use crate::registers::TCYC;
 use crate::registers::TID;
 use crate::registers::TYP;
 use crate::registers::product;
-use crate::sources::below24;
-use crate::sources::distinct;
 use crate::sources::is_recorded;
+use crate::sources::listed;
 use crate::sources::sid_of;
 use crate::state::IN_FALLBACK;
 use crate::state::IN_RUN;
@@ -53,10 +52,9 @@ fn sources_sound(a: Agent) -> bool
     let n = a.count as usize;
     // the list only: borrowing the field would copy more of the agent
     let known = a.known;
-    let apart = distinct(&known, n);
-    let below = below24(&known, n);
+    let fit = listed(&known, n);
     let sid = sid_of(a);
-    apart & below & ((a.count == 0) == (sid == NOBODY))
+    fit & ((a.count == 0) == (sid == NOBODY))
 }
 
 // k is at most 64, e at most 254; the last source is recorded, or there is none and the cycle is unheard; heard has one
@@ -112,7 +110,11 @@ pub fn sound(a: Agent) -> bool
     let settings = settings_sound(a);
     let sources = sources_sound(a);
     let counters = counters_sound(a);
-    let run = run_sound(a);
+    let common = settings & sources & counters;
+    if a.mode == IN_RUN {
+        let run = run_sound(a);
+        return common & run;
+    }
     let fallback = fallback_sound(a);
-    settings & sources & counters & (run | fallback)
+    common & fallback
 }

@@ -1,4 +1,5 @@
 // The recorded concentrators: up to 8, the first `count` of the list.
+ghost use mathlib.Core.Bool.{_&&_};
 ghost use mathlib.Core.Path.{_≡_};
 ghost use Prim.Native.Nat.{_^_, _<_, _≤_};
 ghost use Rattle.rules.specs.Sources.{holds, distinct, below24, isRecorded, recorded, sidOf};
@@ -12,39 +13,27 @@ fn holds(known: &[u32; 8], n: usize, x: u32) -> bool
     requires { ⌜ n ≤ 8 ⌝ }
     ensures { λ r. ⌜ r ≡ holds (now (known .entry)) n x ⌝ }
 {
-    let mut found = false;
     let mut i: usize = 0;
     while i < n {
-        found = found | (known[i] == x);
+        if known[i] == x {
+            return true;
+        }
         i += 1;
     }
-    found
+    false
 }
 
-// The first n are distinct.
-pub fn distinct(known: &[u32; 8], n: usize) -> bool
+// The first n are distinct, and none of them is FFFFFFh or more: one loop for both.
+pub fn listed(known: &[u32; 8], n: usize) -> bool
     requires { ⌜ n ≤ 8 ⌝ }
-    ensures { λ r. ⌜ r ≡ distinct (now (known .entry)) n ⌝ }
+    ensures { λ r. ⌜ r ≡ (distinct (now (known .entry)) n && below24 (now (known .entry)) n) ⌝ }
 {
     let mut ok = true;
     let mut i: usize = 0;
     while i < n {
-        let again = holds(known, i, known[i]);
-        ok = ok & !again;
-        i += 1;
-    }
-    ok
-}
-
-// None of the first n is FFFFFFh or more.
-pub fn below24(known: &[u32; 8], n: usize) -> bool
-    requires { ⌜ n ≤ 8 ⌝ }
-    ensures { λ r. ⌜ r ≡ below24 (now (known .entry)) n ⌝ }
-{
-    let mut ok = true;
-    let mut i: usize = 0;
-    while i < n {
-        ok = ok & (known[i] < NOBODY);
+        let x = known[i];
+        let again = holds(known, i, x);
+        ok = ok & !again & (x < NOBODY);
         i += 1;
     }
     ok

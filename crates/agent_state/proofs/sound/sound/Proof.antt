@@ -1,5 +1,5 @@
 -- `sound::sound` meets its contract. Assumes nothing.
-use Rattle.agent_state.proofs.SoundLaws.{sound-law}
+use Rattle.agent_state.proofs.SoundLaws.{sound-run, sound-fallback}
 use borrow.Author.Needs.{needs}
 use Rattle.agent_state.proofs.sound.sound.Statement.{statement}
 use Rattle.agent_state.proofs.sound.sound.Tie as tie
@@ -16,13 +16,18 @@ counters-sound-requires c κs = search needs
 run-sound-requires : tie.Need-run-sound-requires
 run-sound-requires c κs = search needs
 
+returns : tie.Need-returns
+returns c =
+    let p = c .before .before .before in
+    sound-run _ _ _ _ (p .before .before .settings-sound .ensures) (p .before .sources-sound .ensures) (p .counters-sound .ensures) _ (c .before .if1 .taken) (c .run-sound .ensures)
+
 fallback-sound-requires : tie.Need-fallback-sound-requires
 fallback-sound-requires c κs = search needs
 
-returns : tie.Need-returns
-returns c =
-    let p = c .before .before in
-    sound-law _ _ _ _ _ _ (p .before .before .settings-sound .ensures) (p .before .sources-sound .ensures) (p .counters-sound .ensures) (c .before .run-sound .ensures) (c .fallback-sound .ensures)
+returns-2 : tie.Need-returns-2
+returns-2 c =
+    let p = c .before .before .before in
+    sound-fallback _ _ _ _ (p .before .before .settings-sound .ensures) (p .before .sources-sound .ensures) (p .counters-sound .ensures) _ (c .before .if1 .left) (c .fallback-sound .ensures)
 
 pub sound-spec : {M : Type 1} → statement M
-sound-spec = tie.close (tie.spec settings-sound-requires sources-sound-requires counters-sound-requires run-sound-requires fallback-sound-requires returns)
+sound-spec = tie.close (tie.spec settings-sound-requires sources-sound-requires counters-sound-requires run-sound-requires returns fallback-sound-requires returns-2)

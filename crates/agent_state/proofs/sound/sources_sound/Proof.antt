@@ -10,11 +10,8 @@ returns c = sources-many _ (c .if1 .taken)
 cast-n : tie.Need-cast-n
 cast-n c = search needs
 
-distinct-requires : tie.Need-distinct-requires
-distinct-requires c κs = search needs
-
-below24-requires : tie.Need-below24-requires
-below24-requires c κs = search needs
+listed-requires : tie.Need-listed-requires
+listed-requires c κs = search needs
 
 sid-of-requires : tie.Need-sid-of-requires
 sid-of-requires c κs = search needs
@@ -22,9 +19,8 @@ sid-of-requires c κs = search needs
 returns-2 : tie.Need-returns-2
 returns-2 c =
     let o = c .before in
-    let p = o .before .before .before in
-    let q = p .before .before .before .before in
-    sources-law (q .before .before .args .a) _ _ _ (q .if1 .left) (p .distinct .ensures) (o .before .below24 .ensures) (o .sid-of .ensures .0)
+    let q = o .before .before .before .before .before in
+    sources-law (q .before .before .args .a) _ _ (q .if1 .left) (o .before .listed .ensures) (o .sid-of .ensures .0)
 
 pub sources-sound-spec : {M : Type 1} → statement M
-sources-sound-spec = tie.close (tie.spec returns cast-n distinct-requires below24-requires sid-of-requires returns-2)
+sources-sound-spec = tie.close (tie.spec returns cast-n listed-requires sid-of-requires returns-2)
