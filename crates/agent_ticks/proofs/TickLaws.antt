@@ -1,13 +1,23 @@
 -- The rules of a tick, by the outcome of each test. Assumes nothing.
-use mathlib.Core.Path.{_≡_, sym, ap, ap₂, _∙_}
-use mathlib.Core.Bool.{Bool, true, false}
-use Prim.Native.Nat.{ℕ, _+_, _%_, _≤_, _<_}
-use borrow.Author.Tests.{le-leb, lt-leb}
-use lib.Dec.{ltb}
+use mathlib.Core.Path.{_≡_, refl, sym, ap, ap₂, _∙_, subst}
+use mathlib.Core.Bool.{Bool, true, false, _||_}
+use mathlib.Core.List.{List, [], _∷_}
+use mathlib.Core.Logic.{_⊎_, inl, inr, ⊎-elim}
+use Prim.Native.Nat.{ℕ, zero, suc, _+_, _-_, _^_, _%_, _≤_, _<_}
+use native.Mathlib.Nat.{mod-eq-of-lt, add-zero}
+use native.Mathlib.Omega.{arith}
+use borrow.Author.Tests.{le-leb, lt-leb, eq-eqb, ne-eqb}
+use lib.Bits.{bitAnd, and-mask, and-zero-r}
+use lib.Dec.{eqb, ltb}
+use lib.ListN.{getD, replicate, set}
+use lib.Seq.{sets}
 use Rattle.base.specs.Choice.{choose}
-use Rattle.base.proofs.Choosing.{choose-true, choose-false}
+use Rattle.base.proofs.Choosing.{never, by-test, choose-true, choose-false, or-cases, or-left-false, or-right-false}
+use Rattle.base.proofs.Fills.{fill-turn}
+use Rattle.agent_ticks.specs.Limited.{Shows, fallMarked}
 use Rattle.rules.specs.Fallback.{enterFallback}
-use Rattle.rules.specs.State.{unheard, running, tOf, withClock, withCycle}
+use Rattle.rules.specs.Registers.{outputsAt, image}
+use Rattle.rules.specs.State.{inRun, inFallback, unheard, running, tOf, withRegs, withMode, withClock, withCycle}
 use Rattle.rules.specs.Tick.{silenceEnd, counted, syncLimit, commandLimit, limited, cycleEnded, ticked}
 use Rattle.rules.specs.declared.Agent.{Agent}
 
@@ -15,18 +25,113 @@ pub count-law : (a : Agent) (s q : ℕ) → s ≡ choose (ltb (a .silence) silen
 unfolding counted
 count-law a s q d e = ap₂ (λ (x y : ℕ). withClock (a .elapsed + 1) x y a) d e
 
--- fallback at the first limit, at the second, and neither
-pub limit-first : (a b : Agent) (t : Bool) → t ≡ syncLimit a → t ≡ true → b ≡ enterFallback a → b ≡ limited a
-unfolding limited
-limit-first a b t d h e = e ∙ sym (choose-true _ _ (sym d ∙ h))
+-- counting leaves mode and registers
+pub shows-counted : (a b : Agent) → b ≡ counted a → Shows (a .mode) (a .regs) → Shows (b .mode) (b .regs)
+unfolding counted
+shows-counted a b e s = subst (λ (x : Agent). Shows (x .mode) (x .regs)) (sym e) s
 
-pub limit-second : (a b : Agent) (t u : Bool) → t ≡ syncLimit a → t ≡ false → u ≡ commandLimit a → u ≡ true → b ≡ enterFallback a → b ≡ limited a
-unfolding limited
-limit-second a b t u d h f k e = e ∙ sym (choose-true _ _ (sym f ∙ k)) ∙ sym (choose-false _ _ (sym d ∙ h))
+-- ---- the limits
 
-pub limit-none : (a : Agent) (t u : Bool) → t ≡ syncLimit a → t ≡ false → u ≡ commandLimit a → u ≡ false → a ≡ limited a
+-- the mask: 00h less the mode
+module _ (keep mode : ℕ) (h : keep < 256) (e : (keep + mode) % 2 ^ 8 ≡ 0) where
+  pub keep-run : mode ≡ inRun → keep ≡ 0xFF
+  keep-run m = omega arith
+
+  pub keep-fallback : mode ≡ inFallback → keep ≡ 0x00
+  keep-fallback m = omega arith
+
+  pub keep-is : (mode ≡ inRun) ⊎ (mode ≡ inFallback) → (keep ≡ 0xFF) ⊎ (keep ≡ 0x00)
+  keep-is = ⊎-elim (λ m. inl (keep-run m)) (λ m. inr (keep-fallback m))
+
+-- a byte under the mask
+pub mask-law : (x keep : ℕ) → x < 256 → (keep ≡ 0xFF) ⊎ (keep ≡ 0x00) → bitAnd x keep ≡ choose (eqb keep 0xFF) x 0
+mask-law x keep h =
+    ⊎-elim (λ e. ap (bitAnd x) e ∙ and-mask x 8 ∙ mod-eq-of-lt h ∙ sym (choose-true x 0 (eq-eqb keep 0xFF e)))
+    (λ e. ap (bitAnd x) e ∙ and-zero-r x ∙ sym (choose-false x 0 (ne-eqb keep 0xFF (λ z. omega arith))))
+
+-- a byte stored where it stands
+set-same : (r : List ℕ) (i : ℕ) → set r i (getD r i 0) ≡ r
+set-same [] i = refl
+set-same (x ∷ r) zero = refl
+set-same (x ∷ r) (suc i) = ap (λ (l : List ℕ). x ∷ l) (set-same r i)
+
+-- a turn of the mask: in RUN, and in fallback
+pub run-turn : (r q : List ℕ) (i x keep : ℕ) → x ≡ choose (eqb keep 0xFF) (getD q i 0) 0 → keep ≡ 0xFF → q ≡ r → set q i x ≡ r
+run-turn r q i x keep m k e = ap (set q i) (m ∙ choose-true (getD q i 0) 0 (eq-eqb keep 0xFF k)) ∙ set-same q i ∙ e
+
+pub fallback-turn : (r q : List ℕ) (i n x keep : ℕ) → x ≡ choose (eqb keep 0xFF) (getD q (outputsAt + i) 0) 0 → keep ≡ 0x00 → i < n → sets q (outputsAt + i) (replicate (n - i) 0) ≡ sets r outputsAt (replicate n 0)
+    → sets (set q (outputsAt + i) x) (outputsAt + (i + 1)) (replicate (n - (i + 1)) 0) ≡ sets r outputsAt (replicate n 0)
+fallback-turn r q i n x keep m k h e =
+    ap (λ (y : ℕ). sets (set q (outputsAt + i) y) (outputsAt + (i + 1)) (replicate (n - (i + 1)) 0))
+    (m ∙ choose-false (getD q (outputsAt + i) 0) 0 (ne-eqb keep 0xFF (λ z. omega arith)))
+    ∙ fill-turn q (sets r outputsAt (replicate n 0)) outputsAt i n 0 h e
+
+-- registers that are 0 stay so
+zeros-stay : (n i : ℕ) (r : List ℕ) → ((j : ℕ) → j < n → getD r (i + j) 0 ≡ 0) → sets r i (replicate n 0) ≡ r
+zeros-stay zero i r z = refl
+zeros-stay (suc n) i r z =
+    let here : set r i 0 ≡ r = ap (set r i) (sym (ap (λ (k : ℕ). getD r k 0) (sym (add-zero i)) ∙ z 0 (omega arith))) ∙ set-same r i in
+    let there : (j : ℕ) → j < n → getD r (suc i + j) 0 ≡ 0 =
+    λ j h. ap (λ (k : ℕ). getD r k 0) (let e : suc i + j ≡ i + suc j = omega arith in e) ∙ z (suc j) (omega arith) in
+    ap (λ (l : List ℕ). sets l (suc i) (replicate n 0)) here ∙ zeros-stay n (suc i) r there
+
+-- at a limit
+at-limit : (a : Agent) → (syncLimit a || commandLimit a) ≡ true → limited a ≡ enterFallback a
 unfolding limited
-limit-none a t u d h f k = sym (choose-false _ _ (sym f ∙ k)) ∙ sym (choose-false _ _ (sym d ∙ h))
+at-limit a e =
+    by-test (λ (b : Agent). b ≡ enterFallback a) (syncLimit a) (λ h. refl)
+    (λ h. choose-true _ _ (or-cases (syncLimit a) (commandLimit a) e (λ t. never (sym h ∙ t)) (λ t. t)))
+
+below-limits : (a : Agent) → (syncLimit a || commandLimit a) ≡ false → limited a ≡ a
+unfolding limited
+below-limits a e = choose-false _ _ (or-left-false (syncLimit a) _ e) ∙ choose-false _ _ (or-right-false (syncLimit a) _ e)
+
+-- what the mask leaves of the registers
+abbrev cold : List ℕ → List ℕ
+cold r = sets r outputsAt (replicate image 0)
+
+abbrev pub Masked : ℕ → List ℕ → List ℕ → Type 0
+Masked mode r q = q ≡ choose (eqb mode inRun) r (cold r)
+
+pub masked-run : (mode : ℕ) (r q : List ℕ) → mode ≡ inRun → q ≡ r → Masked mode r q
+masked-run mode r q m e = e ∙ sym (choose-true r (cold r) (eq-eqb mode inRun m))
+
+pub masked-fallback : (mode : ℕ) (r q : List ℕ) → mode ≡ inFallback → q ≡ cold r → Masked mode r q
+masked-fallback mode r q m e = e ∙ sym (choose-false r (cold r) (ne-eqb mode inRun (λ z. omega arith)))
+
+in-run : (mode : ℕ) (r q : List ℕ) → mode ≡ inRun → Masked mode r q → q ≡ r
+in-run mode r q m k = k ∙ choose-true r (cold r) (eq-eqb mode inRun m)
+
+in-fallback : (mode : ℕ) (r q : List ℕ) → mode ≡ inFallback → Masked mode r q → q ≡ cold r
+in-fallback mode r q m k = k ∙ choose-false r (cold r) (ne-eqb mode inRun (λ z. omega arith))
+
+-- the mode afterwards is one of the two
+pub mode-is : (falls : Bool) (before after : ℕ) (r : List ℕ) → after ≡ choose falls inFallback before → Shows before r → (after ≡ inRun) ⊎ (after ≡ inFallback)
+mode-is true before after r e s = inr e
+mode-is false before after r e s = ⊎-elim (λ m. inl (e ∙ m)) (λ m. inr (e ∙ m .0)) s
+
+module _ (a : Agent) (r q : List ℕ) (mode idle : ℕ) where
+  fell : (syncLimit a || commandLimit a) ≡ true → r ≡ fallMarked (a .regs) → mode ≡ inFallback → idle ≡ 0 → Masked mode r q
+      → withMode mode idle (withRegs q a) ≡ limited a
+  unfolding enterFallback
+  fell e f m i k =
+      ap₂ (λ (x y : ℕ). withMode x y (withRegs q a)) m i
+      ∙ ap (λ (l : List ℕ). withMode inFallback 0 (withRegs l a)) (in-fallback mode r q m k ∙ ap cold f)
+      ∙ sym (at-limit a e)
+
+  stays : (syncLimit a || commandLimit a) ≡ false → r ≡ a .regs → mode ≡ a .mode → idle ≡ a .idle → Shows (a .mode) (a .regs) → Masked mode r q
+      → withMode mode idle (withRegs q a) ≡ limited a
+  stays e f m i s k =
+      let same : q ≡ a .regs =
+      ⊎-elim (λ h. in-run mode r q (m ∙ h) k ∙ f)
+      (λ h. in-fallback mode r q (m ∙ h .0) k ∙ ap cold f ∙ zeros-stay image outputsAt (a .regs) (h .1)) s in
+      ap₂ (λ (x y : ℕ). withMode x y (withRegs q a)) m i ∙ ap (λ (l : List ℕ). withRegs l a) same ∙ sym (below-limits a e)
+
+pub limit-law : (a : Agent) (r q : List ℕ) (falls : Bool) (mode idle : ℕ) → falls ≡ (syncLimit a || commandLimit a) → Shows (a .mode) (a .regs)
+    → mode ≡ choose falls inFallback (a .mode) → idle ≡ choose falls 0 (a .idle) → r ≡ choose falls (fallMarked (a .regs)) (a .regs) → Masked mode r q
+    → withMode mode idle (withRegs q a) ≡ limited a
+limit-law a r q true mode idle d s m i f k = fell a r q mode idle (sym d) f m i k
+limit-law a r q false mode idle d s m i f k = stays a r q mode idle (sym d) f m i s k
 
 -- the cycle goes on, and ends
 pub cycle-on : (a : Agent) → a .elapsed < tOf a → a ≡ cycleEnded a

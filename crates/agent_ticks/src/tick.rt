@@ -1,17 +1,27 @@
 // Tick: the counters, then the two limits, then the end of the cycle.
+ghost use mathlib.Core.Logic.{_⊎_};
 ghost use mathlib.Core.Path.{_≡_};
 ghost use Prim.Native.Nat.{_+_, _<_};
 ghost use lib.Dec.{eqb, ltb};
+ghost use lib.ListN.{replicate};
+ghost use lib.Seq.{sets};
+ghost use Rattle.agent_ticks.specs.Limited.{Shows, fallMarked};
 ghost use Rattle.base.specs.Choice.{choose};
-ghost use Rattle.rules.specs.State.{inRun};
+ghost use Rattle.rules.specs.Registers.{outputsAt, image};
+ghost use Rattle.rules.specs.State.{inRun, inFallback};
 ghost use Rattle.rules.specs.Tick.{counted, limited, cycleEnded, ticked, silenceEnd, syncLimit, commandLimit};
-use agent_marks::fallback::enter_fallback;
 use agent_state::registers::CNF_CYC;
 use agent_state::registers::CNF_REP;
+use agent_state::registers::IMAGE;
+use agent_state::registers::OUT_REP;
+use agent_state::registers::OUTPUTS;
+use agent_state::registers::STATUT;
 use agent_state::registers::TCYC;
 use agent_state::registers::product;
+use agent_state::state::IN_FALLBACK;
 use agent_state::state::IN_RUN;
 use agent_state::state::UNHEARD;
+use agent_state::state::WITHHELD;
 use rules::Agent;
 
 // s stops here.
@@ -60,17 +70,69 @@ fn at_command_limit(a: Agent) -> bool
     (a.mode == IN_RUN) & (most <= a.idle)
 }
 
+// The mode, or fallback if the module falls.
+fn mode_after(falls: bool, mode: u8) -> u8
+    ensures { λ r. ⌜ r ≡ choose falls inFallback mode ⌝ }
+{
+    if falls { IN_FALLBACK } else { mode }
+}
+
+// q, or 0 if the module falls.
+fn idle_after(falls: bool, q: u16) -> u16
+    ensures { λ r. ⌜ r ≡ choose falls 0 q ⌝ }
+{
+    if falls { 0 } else { q }
+}
+
+// STATUT bit 7 and OUT_REP AAh if the module falls.
+fn mark_fall(regs: &mut [u8; 256], falls: bool)
+    ensures { λ _. ⌜ now (regs .exit) ≡ choose falls (fallMarked (now (regs .entry))) (now (regs .entry)) ⌝ }
+{
+    if !falls {
+        return;
+    }
+    regs[STATUT] = regs[STATUT] | 0x80;
+    regs[OUT_REP] = WITHHELD;
+}
+
+// A byte under the mask FFh or 00h.
+fn masked(x: u8, keep: u8) -> u8
+    requires { ⌜ (keep ≡ 0xFF) ⊎ (keep ≡ 0x00) ⌝ }
+    ensures { λ r. ⌜ r ≡ choose (eqb keep 0xFF) x 0 ⌝ }
+{
+    x & keep
+}
+
+// In RUN the outputs stay, in fallback they are 0: one mask, FFh or 00h, and no branch, so that the compiler sees which
+// registers stay and copies none of them.
+fn mask_outputs(regs: &mut [u8; 256], mode: u8)
+    requires { ⌜ (mode ≡ inRun) ⊎ (mode ≡ inFallback) ⌝ }
+    ensures { λ _. ⌜ now (regs .exit) ≡ choose (eqb mode inRun) (now (regs .entry)) (sets (now (regs .entry)) outputsAt (replicate image 0)) ⌝ }
+{
+    let keep = std::num::wrapping_sub_u8(0, mode);
+    let mut i: usize = 0;
+    while i < IMAGE {
+        regs[OUTPUTS + i] = masked(regs[OUTPUTS + i], keep);
+        i += 1;
+    }
+}
+
 // Fallback at the sync limit, in either mode, or else at the command limit.
 fn limit(a: Agent) -> Agent
+    requires { ⌜ Shows (a .mode) (a .regs) ⌝ }
     ensures { λ r. ⌜ r ≡ limited a ⌝ }
 {
-    if at_sync_limit(a) {
-        return enter_fallback(a);
-    }
-    if at_command_limit(a) {
-        return enter_fallback(a);
-    }
-    a
+    let sync = at_sync_limit(a);
+    let command = at_command_limit(a);
+    let falls = sync | command;
+    let mode = mode_after(falls, a.mode);
+    let idle = idle_after(falls, a.idle);
+    let mut next = a;
+    mark_fall(&mut next.regs, falls);
+    mask_outputs(&mut next.regs, mode);
+    next.mode = mode;
+    next.idle = idle;
+    next
 }
 
 // If e is at least t, the next cycle begins, unheard.
@@ -89,7 +151,7 @@ fn end_cycle(a: Agent) -> Agent
 }
 
 pub fn tick(a: Agent) -> Agent
-    requires { ⌜ (a .elapsed < 255) × (a .idle < 65535) ⌝ }
+    requires { ⌜ (a .elapsed < 255) × (a .idle < 65535) × Shows (a .mode) (a .regs) ⌝ }
     ensures { λ r. ⌜ r ≡ ticked a ⌝ }
 {
     end_cycle(limit(count(a)))

@@ -5,7 +5,7 @@ use mir.Val.{Fits}
 use lib.ListN.{getD}
 use borrow.Author.Needs.{needs}
 use Rattle.agent.proofs.CallLaws.{tick-sound, tick-unsound}
-use Rattle.agent_state.proofs.SoundFacts.{elapsed-room, idle-room}
+use Rattle.agent_state.proofs.SoundFacts.{elapsed-room, idle-room, mode-shows}
 use Rattle.agent.proofs.calls.tick.Statement.{statement}
 use Rattle.agent.proofs.calls.tick.Tie as tie
 
@@ -18,7 +18,7 @@ tick-requires c κs =
     let s = sym (c .before .sound .ensures) ∙ c .if1 .taken in
     let hm : Fits w8 (getD (a .regs) 0x1A 0) = search needs in
     let ht : Fits w8 (getD (a .regs) 0x18 0) = search needs in
-    (elapsed-room a s, idle-room a s (hm .fits) (ht .fits))
+    (elapsed-room a s, idle-room a s (hm .fits) (ht .fits), mode-shows a s)
 
 returns : tie.Need-returns
 returns c = tick-sound _ _ _ (c .before .before .sound .ensures) (c .before .if1 .taken) (c .tick .ensures)

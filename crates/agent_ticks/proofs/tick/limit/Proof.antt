@@ -1,37 +1,51 @@
 -- `tick::limit` meets its contract. Assumes nothing.
-use Rattle.agent_ticks.proofs.TickLaws.{limit-first, limit-second, limit-none}
+use mathlib.Core.Bool.{_||_}
+use mathlib.Core.Path.{ap₂}
 use borrow.Author.Needs.{needs}
+use Rattle.agent_ticks.proofs.TickLaws.{mode-is, limit-law}
 use Rattle.agent_ticks.proofs.tick.limit.Statement.{statement}
 use Rattle.agent_ticks.proofs.tick.limit.Tie as tie
 
 at-sync-limit-requires : tie.Need-at-sync-limit-requires
 at-sync-limit-requires c κs = search needs
 
-enter-fallback-requires : tie.Need-enter-fallback-requires
-enter-fallback-requires c κs = search needs
-
-returns : tie.Need-returns
-returns c =
-    let p = c .before .before in
-    limit-first (p .before .args .a) _ _ (p .at-sync-limit .ensures) (c .before .if1 .taken) (c .enter-fallback .ensures)
-
 at-command-limit-requires : tie.Need-at-command-limit-requires
 at-command-limit-requires c κs = search needs
 
-enter-fallback-requires-2 : tie.Need-enter-fallback-requires-2
-enter-fallback-requires-2 c κs = search needs
+mode-after-requires : tie.Need-mode-after-requires
+mode-after-requires c κs = search needs
 
-returns-2 : tie.Need-returns-2
-returns-2 c =
-    let q = c .before .before in
-    let p = q .before .before in
-    limit-second (p .before .args .a) _ _ _ (p .at-sync-limit .ensures) (q .before .if1 .left) (q .at-command-limit .ensures) (c .before .if2 .taken) (c .enter-fallback2 .ensures)
+idle-after-requires : tie.Need-idle-after-requires
+idle-after-requires c κs = search needs
 
-returns-3 : tie.Need-returns-3
-returns-3 c =
-    let q = c .before in
-    let p = q .before .before in
-    limit-none (p .before .args .a) _ _ (p .at-sync-limit .ensures) (q .before .if1 .left) (q .at-command-limit .ensures) (c .if2 .left)
+mark-fall-requires : tie.Need-mark-fall-requires
+mark-fall-requires c κs = search needs
+
+mask-outputs-requires : tie.Need-mask-outputs-requires
+mask-outputs-requires c κs =
+    let m = c .before .before .before .before in
+    let t = m .before in
+    let s = t .before .before in
+    mode-is (t .before .at-sync-limit .result || t .at-command-limit .result) _ _ (s .args .a .regs) (m .mode-after .ensures) (s .pre)
+
+returns : tie.Need-returns
+returns c =
+    let m = c .before .before in
+    let i = m .before .before in
+    let t = i .before .before in
+    let s = t .before .before in
+    limit-law (s .args .a) (m .mark-fall .last .0) (c .mask-outputs .last .0) _ _ _
+    (ap₂ _||_ (t .before .at-sync-limit .ensures) (t .at-command-limit .ensures)) (s .pre)
+    (i .before .mode-after .ensures) (i .idle-after .ensures) (m .mark-fall .ensures) (c .mask-outputs .ensures)
 
 pub limit-spec : {M : Type 1} → statement M
-limit-spec = tie.close (tie.spec at-sync-limit-requires enter-fallback-requires returns at-command-limit-requires enter-fallback-requires-2 returns-2 returns-3)
+limit-spec =
+    tie.close
+    (tie.spec
+    at-sync-limit-requires
+    at-command-limit-requires
+    mode-after-requires
+    idle-after-requires
+    mark-fall-requires
+    mask-outputs-requires
+    returns)

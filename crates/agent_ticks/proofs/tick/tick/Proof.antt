@@ -1,5 +1,5 @@
 -- `tick::tick` meets its contract. Assumes nothing.
-use Rattle.agent_ticks.proofs.TickLaws.{tick-law}
+use Rattle.agent_ticks.proofs.TickLaws.{shows-counted, tick-law}
 use borrow.Author.Needs.{needs}
 use Rattle.agent_ticks.proofs.tick.tick.Statement.{statement}
 use Rattle.agent_ticks.proofs.tick.tick.Tie as tie
@@ -8,7 +8,7 @@ count-requires : tie.Need-count-requires
 count-requires c κs = search needs
 
 limit-requires : tie.Need-limit-requires
-limit-requires c κs = search needs
+limit-requires c κs = shows-counted _ _ (c .count .ensures) (c .before .pre .2)
 
 end-cycle-requires : tie.Need-end-cycle-requires
 end-cycle-requires c κs = search needs

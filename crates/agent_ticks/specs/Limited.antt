@@ -1,0 +1,19 @@
+-- What the limits of a tick find and mark in the registers. Assumes nothing.
+use mathlib.Core.List.{List, [], _∷_}
+use mathlib.Core.Logic.{_⊎_}
+use mathlib.Core.Path.{_≡_}
+use Prim.Native.Nat.{ℕ, _+_, _<_}
+use lib.Bits.{bitOr}
+use lib.ListN.{getD}
+use lib.Seq.{sets}
+use Rattle.rules.specs.Fallback.{withheld}
+use Rattle.rules.specs.Registers.{outRep, statut, outputsAt, image}
+use Rattle.rules.specs.State.{inRun, inFallback}
+
+-- the mode is one of the two, and in fallback the outputs are 0, as in every sound state
+abbrev pub Shows : ℕ → List ℕ → Type 0
+Shows mode r = (mode ≡ inRun) ⊎ ((mode ≡ inFallback) × ((i : ℕ) → i < image → getD r (outputsAt + i) 0 ≡ 0))
+
+-- STATUT bit 7, and OUT_REP not released
+abbrev pub fallMarked : List ℕ → List ℕ
+fallMarked r = sets (sets r statut (bitOr (getD r statut 0) 0x80 ∷ [])) outRep (withheld ∷ [])
