@@ -1,14 +1,14 @@
 /* The bus agent of one SIL2 output module, for C11 and C++. The caller owns the agent; each call alters it in place.
  *
  * The main loop:
- * - saturn_power_up once; then saturn_tick every millisecond, saturn_frame for each body received, saturn_inputs when the
- *   inputs change.
+ * - saturn_power_up once; then saturn_tick every millisecond, with the inputs as they are then, and saturn_frame for each
+ *   body received.
  * - After every call, ticks included, copy the output image, regs[SATURN_REG_OUTPUTS] and the 63 after it, to the terminals.
  *   In fallback it is all zero.
  * - When a call answers SATURN_UNSOUND (19), switch the terminals off and call saturn_power_up. The state was damaged from
  *   outside. Every further call would answer 19 and leave it as it is: a module that was in RUN would stay in RUN with its
- *   outputs on, since no time limit runs any more. After saturn_power_up set the inputs again; the concentrators must
- *   assign and release the module again.
+ *   outputs on, since no time limit runs any more. After saturn_power_up the concentrators must assign and release the
+ *   module again.
  *   19 does not replace a memory test: damage that leaves a state sound, say in the outputs in RUN, is not detected.
  *
  * What the caller must ensure:
@@ -31,10 +31,10 @@
 #include <stdint.h>
 
 /* the version of this header, and of the library that it was installed with */
-#define SATURN_VERSION_MAJOR 1
+#define SATURN_VERSION_MAJOR 2
 #define SATURN_VERSION_MINOR 0
 #define SATURN_VERSION_PATCH 0
-#define SATURN_VERSION "1.0.0"
+#define SATURN_VERSION "2.0.0"
 
 #ifdef __cplusplus
 extern "C" {
@@ -163,11 +163,10 @@ static inline const char *saturn_answer_text(uint8_t answer)
  * their power-up values, with this MAC, IID and VER. */
 void saturn_power_up(saturn_agent *agent, uint64_t mac, uint64_t iid, uint16_t ver);
 
-/* One millisecond: e, s and, in RUN, q count on, and a limit that is reached leads to fallback. Answers 0 or 19. */
-uint8_t saturn_tick(saturn_agent *agent);
-
-/* The inputs: registers C0h to FFh become these 64 bytes. Answers 0, 19 or 21; with 19 and 21 the agent is left as it was. */
-uint8_t saturn_inputs(saturn_agent *agent, const uint8_t *inputs, size_t inputs_length);
+/* One millisecond, with the inputs: registers C0h to FFh become these 64 bytes, then e, s and, in RUN, q count on, and a limit
+ * that is reached leads to fallback. Answers 0, 19 or 21 (not 64 inputs). With 19 and 21 the agent is left as it was: nothing is
+ * stored, and nothing counts on, so a host that always passes a wrong length never reaches a time limit. */
+uint8_t saturn_tick(saturn_agent *agent, const uint8_t *inputs, size_t inputs_length);
 
 /* A body received on port 1 or 2, from the address to the FCS, still stuffed and without flags. The frame has its effect.
  * The first *sent bytes of reply are the whole reply with both flags, to be sent on both ports; the rest of reply is left

@@ -25,6 +25,7 @@ static struct {
 } m;
 
 static uint8_t reply[SATURN_REPLY_ROOM_LEAST];
+static const uint8_t given[SATURN_IMAGE] = {[0] = 0xA5, [SATURN_IMAGE - 1] = 0x5A}; /* the inputs */
 
 /* the bytes of the struct before its padding; there is none between the fields */
 enum { USED = offsetof(saturn_agent, count) + 1 };
@@ -41,7 +42,7 @@ static void unsound(size_t offset, uint8_t value, const char *what)
     saturn_agent kept = m.agent;
     ((uint8_t *)&m.agent)[offset] = value;
     saturn_agent set = m.agent;
-    expect(saturn_tick(&m.agent) == SATURN_UNSOUND, what);
+    expect(saturn_tick(&m.agent, given, sizeof given) == SATURN_UNSOUND, what);
     expect(memcmp(&m.agent, &set, USED) == 0, "an unsound agent is left as it is");
     m.agent = kept;
 }
@@ -77,11 +78,15 @@ int main(void)
 
     saturn_power_up(&m.agent, 1, 2, 0);
     for (unsigned i = 0; i < 10; i++)
-        expect(saturn_tick(&m.agent) == SATURN_ACCEPTED, "tick");
+        expect(saturn_tick(&m.agent, given, sizeof given) == SATURN_ACCEPTED, "tick");
     expect(m.agent.elapsed == 10 && m.agent.silence == 10 && m.agent.cycle == 0 && m.agent.idle == 0, "elapsed and silence");
     for (unsigned i = 0; i < 245; i++)
-        saturn_tick(&m.agent);
+        saturn_tick(&m.agent, given, sizeof given);
     expect(m.agent.elapsed == 0 && m.agent.silence == 255 && m.agent.cycle == 1, "cycle");
+    expect(memcmp(&m.agent.regs[SATURN_REG_INPUTS], given, sizeof given) == 0, "inputs");
+    saturn_agent before = m.agent;
+    expect(saturn_tick(&m.agent, given, sizeof given - 1) == SATURN_HOST_INPUT, "63 inputs");
+    expect(memcmp(&m.agent, &before, USED) == 0, "a tick with 63 inputs leaves the agent as it is");
 
     expect(frame(TID_ASSIGNMENT, sizeof TID_ASSIGNMENT) == 0 && m.agent.regs[SATURN_REG_TID] == 0x05, "TID");
     expect(frame(SID_BY_A, sizeof SID_BY_A) == 0 && m.agent.count == 1 && m.agent.known[0] == 7, "count and known");
@@ -89,7 +94,7 @@ int main(void)
     expect(frame(RELEASE_BY_A, sizeof RELEASE_BY_A) == 0 && m.agent.taken == 1 && m.agent.mode == SATURN_FALLBACK, "taken");
     expect(frame(SYNC_A_11, sizeof SYNC_A_11) == 0 && m.agent.mode == SATURN_RUN && m.agent.taken == 0, "mode");
     for (unsigned i = 0; i < 300; i++)
-        saturn_tick(&m.agent);
+        saturn_tick(&m.agent, given, sizeof given);
     expect(m.agent.idle == 300 && m.agent.silence == 300, "idle");
 
     unsound(offsetof(saturn_agent, mode), 7, "mode is where the library has it");

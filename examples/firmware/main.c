@@ -27,7 +27,6 @@ static void after_call(uint8_t answer)
         memset(terminals, 0, sizeof terminals);
         printf("%6lu ms  answer %u, %s: terminals off, power up\n", now_ms, answer, saturn_answer_text(answer));
         saturn_power_up(&module, MAC, IID, VER);
-        saturn_inputs(&module, given, sizeof given);
     }
     memcpy(terminals, &module.regs[SATURN_REG_OUTPUTS], sizeof terminals);
 }
@@ -59,16 +58,9 @@ static void wait_ms(const char *event, unsigned count)
     uint8_t answer = 0;
     for (unsigned i = 0; i < count; i++) {
         now_ms++;
-        answer = saturn_tick(&module);
+        answer = saturn_tick(&module, given, sizeof given);
         after_call(answer);
     }
-    show(event, answer, 0);
-}
-
-static void inputs(const char *event)
-{
-    uint8_t answer = saturn_inputs(&module, given, sizeof given);
-    after_call(answer);
     show(event, answer, 0);
 }
 
@@ -79,7 +71,7 @@ static void opening(void)
 {
     saturn_power_up(&module, MAC, IID, VER);
     show("power up", 0, 0);
-    inputs("inputs from the host");
+    wait_ms("the first millisecond, with the inputs", 1);
     FRAME("TID 05h is assigned", 1, TID_ASSIGNMENT);
     FRAME("SID 000005h is assigned by concentrator 7", 1, SID_BY_A);
     FRAME("the same by concentrator 8", 2, SID_BY_B);

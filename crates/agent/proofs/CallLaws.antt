@@ -1,35 +1,42 @@
--- The calls, by the outcome of each test. Assumes nothing.
-use mathlib.Core.Path.{_≡_, refl}
+-- The tick call, by the outcome of each test. Assumes nothing.
+use mathlib.Core.Path.{_≡_, refl, _∙_, sym}
 use mathlib.Core.Bool.{Bool, true, false}
 use mathlib.Core.List.{List}
 use Prim.Native.Nat.{ℕ}
 use borrow.Author.Tests.{eq-eqb, ne-eqb}
+use lib.Dec.{eqb}
 use lib.ListN.{length}
+use Rattle.base.proofs.Choosing.{by-test}
 use Rattle.rules.specs.Answers.{accepted, unsound, hostInput}
-use Rattle.rules.specs.Calls.{Answers, tickCall, inputCall}
-use Rattle.rules.specs.Inputs.{withInputs}
+use Rattle.rules.specs.Calls.{Answers, tickCall}
 use Rattle.rules.specs.Registers.{image}
+use Rattle.rules.specs.Replies.{Outcome}
 use Rattle.rules.specs.Sound.{sound}
-use Rattle.rules.specs.Tick.{ticked}
 use Rattle.rules.specs.declared.Agent.{Agent}
 
-pub tick-sound : (a b : Agent) (t : Bool) → t ≡ sound a → t ≡ true → b ≡ ticked a → Answers (tickCall a) accepted b
-unfolding tickCall
-tick-sound a b t d h e = rw (← d, h) (refl, e)
+module _ (a : Agent) (xs : List ℕ) where
+  -- the answer
+  pub tick-unsound : (t : Bool) → t ≡ sound a → t ≡ false → unsound ≡ tickCall a xs .answer
+  unfolding tickCall
+  tick-unsound t d h = rw (← d, h) refl
 
-pub tick-unsound : (a : Agent) (t : Bool) → t ≡ sound a → t ≡ false → Answers (tickCall a) unsound a
-unfolding tickCall
-tick-unsound a t d h = rw (← d, h) (refl, refl)
+  pub tick-inputs : (t : Bool) → t ≡ sound a → t ≡ true → (length xs ≡ image → ⊥) → hostInput ≡ tickCall a xs .answer
+  unfolding tickCall
+  tick-inputs t d h k = rw (← d, h, ne-eqb (length xs) image k) refl
 
-pub inputs-accepted : (a b : Agent) (xs : List ℕ) (t : Bool) → t ≡ sound a → t ≡ true → length xs ≡ image → b ≡ withInputs xs a
-    → Answers (inputCall a xs) accepted b
-unfolding inputCall
-inputs-accepted a b xs t d h k e = rw (← d, h, eq-eqb (length xs) image k) (refl, e)
+  pub tick-accepted : (t : Bool) → t ≡ sound a → t ≡ true → length xs ≡ image → accepted ≡ tickCall a xs .answer
+  unfolding tickCall
+  tick-accepted t d h k = rw (← d, h, eq-eqb (length xs) image k) refl
 
-pub inputs-refused : (a : Agent) (xs : List ℕ) (t : Bool) → t ≡ sound a → t ≡ true → (length xs ≡ image → ⊥) → Answers (inputCall a xs) hostInput a
-unfolding inputCall
-inputs-refused a xs t d h k = rw (← d, h, ne-eqb (length xs) image k) (refl, refl)
+  -- another answer than 0 leaves the agent as it is
+  kept : (tickCall a xs .answer ≡ accepted → ⊥) → a ≡ tickCall a xs .agent
+  unfolding tickCall
+  kept =
+      let Keeps : Outcome → Type 0 = λ o. (o .answer ≡ accepted → ⊥) → a ≡ o .agent in
+      by-test Keeps (sound a) (λ s. by-test Keeps (eqb (length xs) image) (λ e z. absurd (z refl)) (λ e z. refl)) (λ s z. refl)
 
-pub inputs-unsound : (a : Agent) (xs : List ℕ) (t : Bool) → t ≡ sound a → t ≡ false → Answers (inputCall a xs) unsound a
-unfolding inputCall
-inputs-unsound a xs t d h = rw (← d, h) (refl, refl)
+  pub tick-refused : (n : ℕ) → n ≡ tickCall a xs .answer → (n ≡ accepted → ⊥) → Answers (tickCall a xs) n a
+  tick-refused n e z = (e, kept (λ h. z (e ∙ h)))
+
+  pub tick-answers : (n : ℕ) (b : Agent) → n ≡ tickCall a xs .answer → n ≡ accepted → b ≡ tickCall a xs .agent → Answers (tickCall a xs) accepted b
+  tick-answers n b e h f = (sym h ∙ e, f)

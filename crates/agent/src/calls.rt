@@ -1,6 +1,7 @@
 // The calls: the host's numbers, 19, 20 and 21, come first.
+ghost use mathlib.Core.Path.{_≡_};
 ghost use lib.ListN.{length};
-ghost use Rattle.rules.specs.Calls.{tickCall, inputCall, frameCall, Answers, AnswersFrame};
+ghost use Rattle.rules.specs.Calls.{tickCall, frameCall, Answers, AnswersFrame};
 use crate::frame_call::on_app;
 use agent_marks::marks::line_marked;
 use agent_replies::sending::Handled;
@@ -13,7 +14,7 @@ use agent_state::answers::RESERVED;
 use agent_state::answers::UNSOUND;
 use agent_state::registers::IMAGE;
 use agent_state::sound::sound;
-use agent_ticks::inputs::with_inputs;
+use agent_ticks::on_tick::on_tick;
 use rules::Agent;
 use wire::Verdict;
 use wire::read_into;
@@ -25,41 +26,33 @@ pub struct Told {
     pub agent: Agent,
 }
 
-pub fn tick(a: Agent) -> Told
-    ensures { λ r. ⌜ Answers (tickCall a) (r .answer) (r .agent) ⌝ }
+// The answer to a tick call. The call in place asks for it first, so that a call which is refused stores nothing.
+pub fn tick_answer(a: Agent, xs: &[u8]) -> u8
+    ensures { λ r. ⌜ r ≡ tickCall a (now (xs .entry)) .answer ⌝ }
 {
-    if sound(a) {
-        let next = agent_ticks::tick::tick(a);
-        return Told {
-            answer: ACCEPTED,
-            agent: next,
-        };
+    if !sound(a) {
+        return UNSOUND;
     }
-    Told {
-        answer: UNSOUND,
-        agent: a,
+    if xs.len() != IMAGE {
+        return HOST_INPUT;
     }
+    ACCEPTED
 }
 
-pub fn inputs(a: Agent, xs: &[u8]) -> Told
-    ensures { λ r. ⌜ Answers (inputCall a (now (xs .entry))) (r .answer) (r .agent) ⌝ }
+pub fn tick(a: Agent, xs: &[u8]) -> Told
+    ensures { λ r. ⌜ Answers (tickCall a (now (xs .entry))) (r .answer) (r .agent) ⌝ }
 {
-    if sound(a) {
-        if xs.len() == IMAGE {
-            let next = with_inputs(xs, a);
-            return Told {
-                answer: ACCEPTED,
-                agent: next,
-            };
-        }
+    let answer = tick_answer(a, xs);
+    if answer != ACCEPTED {
         return Told {
-            answer: HOST_INPUT,
+            answer: answer,
             agent: a,
         };
     }
+    let next = on_tick(a, xs);
     Told {
-        answer: UNSOUND,
-        agent: a,
+        answer: ACCEPTED,
+        agent: next,
     }
 }
 

@@ -1,1 +1,2 @@
 pub mod TickLaws
+pub mod AcceptedLaws

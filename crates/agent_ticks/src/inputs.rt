@@ -1,4 +1,4 @@
-// Inputs: C0h to FFh, set by the host, 64 bytes a call.
+// Inputs: C0h to FFh, set by the host, 64 bytes a tick call.
 ghost use mathlib.Core.Path.{_≡_};
 ghost use lib.ListN.{length};
 ghost use Rattle.rules.specs.Inputs.{withInputs};

@@ -2,10 +2,10 @@
 -- Assumes nothing.
 use mathlib.Core.List.{List, [], _∷_}
 use mathlib.Core.Path.{_≡_, refl, ap, _∙_}
+use Prim.Native.Nat.{ℕ}
 use native.Mathlib.Omega.{arith}
 use Rattle.frame_kinds.specs.declared.kinds.Frame.the-variants.{Sync, SafeWrite, SidAssignment}
 use Rattle.rules.specs.Assignments.{onFirstSid, onLaterSid, onSid}
-use Rattle.rules.specs.Calls.{tickCall}
 use Rattle.rules.specs.Fallback.{enterFallback, enterRun}
 use Rattle.rules.specs.PowerUp.{powerRegs, powerUp}
 use Rattle.rules.specs.Registers.{outRep, outputsAt, lowBytes, lowNumber}
@@ -21,6 +21,7 @@ use Rattle.rules.specs.declared.Agent.{Agent}
 use Rattle.bench.specs.BusCalls.{module1, ownSid, ownTid, concentrator, seqOf, after, answers, silent}
 use Rattle.bench.specs.Journey.{opening}
 use Rattle.bench.proofs.Acting.{assignment-lays, sync-lays, write-lays, Coming, agentAfter, after-calls, answers-calls}
+use Rattle.bench.proofs.HeldInputs.{Held, held-at, ticks, after-silent}
 
 abbrev coming : List Coming
 coming =
@@ -44,13 +45,21 @@ pub in-run : (after opening module1 .mode ≡ inRun) × (reg (after opening modu
 unfolding onFirstSid onLaterSid onSid enterFallback enterRun powerRegs powerUp lowBytes lowNumber syncReply acknowledges sendFrame sent distance onDistance onRequest settingsSound sourcesSound countersSound outputsZero runSound fallbackSound sound holds distinct below24 isRecorded recorded sidOf cycleFits heardSync synced onSync spanAt spanOf onWrite
 in-run = (ap (λ (a : Agent). a .mode) opened ∙ refl, ap (λ (a : Agent). reg a outputsAt) opened ∙ refl)
 
+-- the inputs are as they were at power-up
+held : Held (agentAfter coming module1)
+unfolding onFirstSid onLaterSid onSid enterFallback enterRun powerRegs powerUp lowBytes lowNumber syncReply acknowledges sendFrame sent distance onDistance onRequest settingsSound sourcesSound countersSound outputsZero runSound fallbackSound sound holds distinct below24 isRecorded recorded sidOf cycleFits heardSync synced onSync spanAt spanOf onWrite
+held = held-at (agentAfter coming module1 .regs) refl refl
+
+silence : (n : ℕ) → after (silent n) (after opening module1) ≡ ticks n (agentAfter coming module1)
+silence n = ap (after (silent n)) opened ∙ after-silent n (agentAfter coming module1) held
+
 -- n × t is 510 ms: RUN after 509 silent ticks, fallback with the output cleared at the 510th
 pub ring-lost : (after (silent 509) (after opening module1) .mode ≡ inRun)
     × (after (silent 510) (after opening module1) .mode ≡ inFallback)
     × (reg (after (silent 510) (after opening module1)) outputsAt ≡ 0)
-unfolding onFirstSid onLaterSid onSid enterFallback enterRun powerRegs powerUp lowBytes lowNumber syncReply acknowledges sendFrame sent distance onDistance onRequest settingsSound sourcesSound countersSound outputsZero runSound fallbackSound sound holds distinct below24 isRecorded recorded sidOf cycleFits heardSync synced onSync spanAt spanOf onWrite tickCall ticked counted limited cycleEnded
+unfolding onFirstSid onLaterSid onSid enterFallback enterRun powerRegs powerUp lowBytes lowNumber syncReply acknowledges sendFrame sent distance onDistance onRequest settingsSound sourcesSound countersSound outputsZero runSound fallbackSound sound holds distinct below24 isRecorded recorded sidOf cycleFits heardSync synced onSync spanAt spanOf onWrite ticked counted limited cycleEnded
 ring-lost = (
-  ap (λ (a : Agent). after (silent 509) a .mode) opened ∙ refl,
-  ap (λ (a : Agent). after (silent 510) a .mode) opened ∙ refl,
-  ap (λ (a : Agent). reg (after (silent 510) a) outputsAt) opened ∙ refl,
+  ap (λ (a : Agent). a .mode) (silence 509) ∙ refl,
+  ap (λ (a : Agent). a .mode) (silence 510) ∙ refl,
+  ap (λ (a : Agent). reg a outputsAt) (silence 510) ∙ refl,
 )

@@ -4,4 +4,5 @@ pub mod Acting
 pub mod Started
 pub mod RunCases
 pub mod Table
+pub mod HeldInputs
 pub mod Journeyed

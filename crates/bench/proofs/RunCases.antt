@@ -9,6 +9,7 @@ use Rattle.frame_kinds.specs.declared.kinds.Frame.{Frame}
 use Rattle.frame_kinds.specs.declared.kinds.Frame.the-variants.{Sync, SafeRead, SafeResponse}
 use Rattle.rules.specs.Calls.{tickCall, Call, act}
 use Rattle.rules.specs.Fallback.{enterFallback, enterRun}
+use Rattle.rules.specs.Inputs.{withInputs}
 use Rattle.rules.specs.Marks.{sequenceMarked}
 use Rattle.rules.specs.PowerUp.{powerRegs}
 use Rattle.rules.specs.Registers.{typAt, lowBytes, lowNumber}
@@ -32,7 +33,7 @@ answer-at l e = ap (λ (o : Outcome). o .answer) (acts-at l e)
 
 -- ---- P9
 pub silence-19 : Says′ p9
-unfolding tickCall ticked counted limited cycleEnded enterFallback settingsSound sourcesSound countersSound outputsZero runSound fallbackSound sound holds distinct below24 isRecorded sidOf lowNumber powerRegs lowBytes
+unfolding tickCall withInputs ticked counted limited cycleEnded enterFallback settingsSound sourcesSound countersSound outputsZero runSound fallbackSound sound holds distinct below24 isRecorded sidOf lowNumber powerRegs lowBytes
 silence-19 = (
   subst (InRun 0x05 0) (sym start-05) record { sound-is = refl; run = refl; t = refl; n = refl; m = refl; heard = refl; cyc = refl; e-is = refl },
   ap (λ (a : Agent). after (silent 19) a .mode) start-05 ∙ refl,
@@ -57,7 +58,7 @@ timely-then calls =
     ∙ ap (after calls) (on-time 4 0x05 (omega arith) (afterPrelude 0x04 0x05) ∙ ap (timely 4 0x05) start-05)
 
 pub commands-49 : Says′ p10
-unfolding tickCall ticked counted limited cycleEnded enterFallback settingsSound sourcesSound countersSound outputsZero runSound fallbackSound sound holds distinct below24 isRecorded sidOf lowNumber powerRegs lowBytes sent sendFrame onSync syncReply synced heardSync cycleFits enterRun
+unfolding tickCall withInputs ticked counted limited cycleEnded enterFallback settingsSound sourcesSound countersSound outputsZero runSound fallbackSound sound holds distinct below24 isRecorded sidOf lowNumber powerRegs lowBytes sent sendFrame onSync syncReply synced heardSync cycleFits enterRun
 commands-49 =
     (ap (λ (a : Agent). a .mode) (timely-then (silent 9)) ∙ refl, ap (λ (a : Agent). a .mode) (timely-then (silent 10)) ∙ refl)
 
@@ -66,7 +67,7 @@ nearly : after (silent 9) (afterPrelude 0xFE 0xFF) ≡ after (silent 9) (ready 0
 nearly = ap (after (silent 9)) start-FF
 
 pub wraps : Says′ p11
-unfolding tickCall ticked counted limited cycleEnded enterFallback settingsSound sourcesSound countersSound outputsZero runSound fallbackSound sound holds distinct below24 isRecorded sidOf lowNumber powerRegs lowBytes sent sendFrame onSync syncReply synced heardSync cycleFits enterRun sequenceMarked
+unfolding tickCall withInputs ticked counted limited cycleEnded enterFallback settingsSound sourcesSound countersSound outputsZero runSound fallbackSound sound holds distinct below24 isRecorded sidOf lowNumber powerRegs lowBytes sent sendFrame onSync syncReply synced heardSync cycleFits enterRun sequenceMarked
 wraps = (
   subst (InRun 0xFF 9) (sym nearly) record { sound-is = refl; run = refl; t = refl; n = refl; m = refl; heard = refl; cyc = refl; e-is = refl },
   answer-at (sync-lays 0x00 (omega arith)) nearly ∙ refl,

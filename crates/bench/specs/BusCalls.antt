@@ -2,13 +2,14 @@
 -- Assumes nothing.
 use mathlib.Core.List.{List, [], _∷_}
 use Prim.Native.Nat.{ℕ, zero, suc, _+_, _%_}
-use lib.ListN.{length}
+use lib.ListN.{length, replicate}
 use Rattle.laying.specs.Laying.{bodyOf}
 use Rattle.frame_kinds.specs.Kinds.{appOf}
 use Rattle.frame_kinds.specs.declared.kinds.Frame.{Frame}
 use Rattle.frame_kinds.specs.declared.kinds.Frame.the-variants.{Sync, SafeRead, SafeWrite, SidAssignment}
 use Rattle.rules.specs.Calls.{leastRoom, Call, tick, frame, act}
 use Rattle.rules.specs.PowerUp.{powerUp}
+use Rattle.rules.specs.Registers.{image}
 use Rattle.rules.specs.Requests.{firstSeq}
 use Rattle.rules.specs.declared.Agent.{Agent}
 
@@ -61,7 +62,10 @@ abbrev pub answers : List Call → Agent → List ℕ
 answers [] a = []
 answers (x ∷ xs) a = act a x .answer ∷ answers xs (act a x .agent)
 
--- n ticks
+-- n ticks, the inputs all 00h
+abbrev pub inputs : List ℕ
+inputs = replicate image 0x00
+
 abbrev pub silent : ℕ → List Call
 silent zero = []
-silent (suc n) = tick ∷ silent n
+silent (suc n) = tick inputs ∷ silent n

@@ -5,7 +5,8 @@ use mathlib.Core.List.{List, [], _∷_}
 use Prim.Native.Nat.{ℕ, _^_, _<_}
 use borrow.Author.Tests.{ltb-true}
 use lib.ListN.{length}
-use Rattle.base.proofs.Choosing.{by-test, never, choose-true, and-left, and-right}
+use lib.Seq.{length-sets}
+use Rattle.base.proofs.Choosing.{never, choose-true, and-left, and-right}
 use Rattle.wire.specs.Body.{readBody}
 use Rattle.wire.specs.declared.Verdict.the-variants as verdict
 use Rattle.frame_kinds.specs.Kinds.{dataIn}
@@ -14,25 +15,24 @@ use Rattle.frame_kinds.specs.declared.kinds.Frame.{Frame}
 use Rattle.frame_kinds.specs.declared.kinds.Frame.the-variants.{SidAssignment}
 use Rattle.frame_forms.specs.declared.Read.the-variants.{Valid}
 use Rattle.frame_reading.proofs.Receiving.{appIn}
-use Rattle.rules.specs.Calls.{tickCall, Call, tick, input, frame, act}
+use Rattle.rules.specs.Calls.{Call, tick, frame, act}
 use Rattle.rules.specs.Good.{Good, BytesCall}
 use Rattle.rules.specs.Inputs.{withInputs}
 use Rattle.rules.specs.Refusals.{isSync, readOf, readsSync}
 use Rattle.rules.specs.Registers.{inputsAt, tidAt}
 use Rattle.rules.specs.Replies.{Outcome}
 use Rattle.rules.specs.Requests.{reads, writes}
-use Rattle.rules.specs.Sound.{sound}
 use Rattle.rules.specs.State.{running, store}
 use Rattle.rules.specs.Writes.{spanOf, allowed, written}
 use Rattle.rules.specs.declared.Agent.{Agent}
 use Rattle.rules.specs.declared.Deed.{Deed}
 use Rattle.rules.specs.declared.Span.{Span}
-use Rattle.rules.proofs.Cases.{isHosts, Accepts, heard, read, wrote, renamed, first, again, later, KindCase, refuses, fell, outside, accepts, FrameCase, unread, readAs, CallCase, unsoundly, hosts, ticks, stores, frames, call-case}
-use Rattle.demand3.specs.Events.{aTick, eventOf}
+use Rattle.rules.proofs.Cases.{isHosts, Accepts, heard, read, wrote, renamed, first, again, later, KindCase, refuses, fell, outside, accepts, FrameCase, unread, readAs, CallCase, unsoundly, hosts, ticks, frames, call-case}
+use Rattle.demand3.specs.Events.{eventOf}
 use Rattle.demand3.specs.Numbers.{isAccepted, accepted, outsideRules}
 use Rattle.demand3.proofs.AgentViews.{agree-refl, apart-view, named-view, recorded-view}
 use Rattle.demand3.proofs.Effects.{Told, told, takes, named, asked, takenOnly, namedFirst, acknowledged, Step}
-use Rattle.demand3.proofs.FrameEvents.{Unheeded, NoTick, unheeded, Carries, carries, sync-brings-none}
+use Rattle.demand3.proofs.FrameEvents.{Unheeded, unheeded, Carries, carries, sync-brings-none}
 use Rattle.demand3.proofs.RegisterViews.{apart-inputs, apart-tid}
 use Rattle.demand3.proofs.RequestDid.{is-due, at-due, is-laid}
 use Rattle.demand3.proofs.Steps.{Leaves, Shown, untaken, after-reply, keeps, refused}
@@ -85,25 +85,16 @@ module _ {a : Agent} (good : Good a) where
     frame-did u c (readAs f v e k) = kind-did u (c f v e) k
 
   -- ---- the calls
-  call-did : {call : Call} {o : Outcome} → BytesCall call → NoTick call → CallCase a call o → Step a (told call) o
+  call-did : {call : Call} {o : Outcome} → BytesCall call → CallCase a call o → Step a (told call) o
   unfolding eventOf withInputs
-  call-did b other (unsoundly e) = never (sym e ∙ good .sound-is)
-  call-did {call = call} b other (hosts n h) = keeps n a (unheeded call other n (untaken isHosts n h refl refl)) (agree-refl (viewOf a))
-  call-did b other ticks = absurd other
-  call-did b other (stores {xs = xs} e) = keeps accepted (withInputs xs a) refl (apart-view inputsAt xs a (apart-inputs (length xs)))
-  call-did b other (frames {port = port} {room = room} {body = body} {d = d} c) =
-      after-reply d (frame-did (unheeded (frame port body room) other) (λ f v e. carries port body room f b v e) c)
-
-  is-tick : eventOf tick accepted ≡ aTick
-  unfolding eventOf
-  is-tick = refl
-
-  tick-step : Step a (told tick) (tickCall a)
-  unfolding tickCall
-  tick-step = by-test (Step a (told tick)) (sound a) (λ h. tick-did a (told tick) accepted is-tick (good .registers)) (λ e. never (sym e ∙ good .sound-is))
+  call-did b (unsoundly e) = never (sym e ∙ good .sound-is)
+  call-did {call = call} b (hosts n h) = keeps n a (unheeded call n (untaken isHosts n h refl refl)) (agree-refl (viewOf a))
+  call-did b (ticks {xs = xs} e) =
+      tick-did a (withInputs xs a) (apart-view inputsAt xs a (apart-inputs (length xs))) (told (tick xs)) accepted refl
+      (length-sets (a .regs) inputsAt xs ∙ good .registers)
+  call-did b (frames {port = port} {room = room} {body = body} {d = d} c) =
+      after-reply d (frame-did (unheeded (frame port body room)) (λ f v e. carries port body room f b v e) c)
 
 -- ---- every call on a good agent is one of the effects
 pub step-did : (a : Agent) (call : Call) → Good a → BytesCall call → Step a (told call) (act a call)
-step-did a tick good bytes = tick-step good
-step-did a (input xs) good bytes = call-did good bytes tt (call-case a (input xs))
-step-did a (frame port body room) good bytes = call-did good bytes tt (call-case a (frame port body room))
+step-did a call good bytes = call-did good bytes (call-case a call)

@@ -61,7 +61,7 @@ abbrev takenOne : Cycle → Cycle
 takenOne y = record { last = y .last; heard = y .heard; c = y .c; k = y .k + 1 }
 
 -- one tick, in that mode
-abbrev clocksOn : ℕ → Clocks → Clocks
+abbrev pub clocksOn : ℕ → Clocks → Clocks
 clocksOn mode x = record { s = choose (ltb (x .s) silenceEnd) (x .s + 1) silenceEnd; q = choose (eqb mode inRun) (x .q + 1) (x .q) }
 
 abbrev withRegisters : RegisterView → View → View

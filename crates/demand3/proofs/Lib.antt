@@ -32,5 +32,6 @@ pub mod Proved
 pub mod Refuses
 pub mod RefusesWrites
 pub mod RefusesData
+pub mod TickCalls
 pub mod ReachedLaws
 pub mod Meant

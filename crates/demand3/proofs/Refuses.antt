@@ -17,16 +17,16 @@ abbrev pub shows : ℕ → ℕ → Seen
 shows mode x = record { mode = mode; out = λ i. x; t = 1; n = 1; m = 1 }
 
 abbrev pub tickEntry : Seen → Seen → Entry
-tickEntry x y = callEntry tick 0 x y
+tickEntry x y = callEntry (tick []) 0 x y
 
-is-tick : eventOf tick 0 ≡ aTick
+is-tick : eventOf (tick []) 0 ≡ aTick
 unfolding eventOf
 is-tick = refl
 
-tick-no-sync : (src cyc : ℕ) → eventOf tick 0 ≡ aSync src cyc → ⊥
+tick-no-sync : (src cyc : ℕ) → eventOf (tick []) 0 ≡ aSync src cyc → ⊥
 tick-no-sync src cyc e = let z : _≡_ {A = ℕ} 0 1 = cc (is-tick) in omega arith
 
-tick-no-request : (r : Request) → eventOf tick 0 ≡ aRequest r → ⊥
+tick-no-request : (r : Request) → eventOf (tick []) 0 ≡ aRequest r → ⊥
 tick-no-request r e = let z : _≡_ {A = ℕ} 0 1 = cc (is-tick) in omega arith
 
 -- ---- outputs

@@ -13,7 +13,7 @@ use Rattle.frame_kinds.specs.declared.kinds.Frame.the-variants.{Sync, SafeRead,
 use Rattle.frame_reading.specs.declared.Reading.{Reading}
 use Rattle.frame_reading.specs.declared.Reading.the-variants as reading
 use Rattle.frame_reading.specs.declared.Received.{Received}
-use Rattle.rules.specs.Calls.{Call, tick, input, frame}
+use Rattle.rules.specs.Calls.{Call, tick, frame}
 use Rattle.rules.specs.Requests.{Ask, reads, writes}
 use Rattle.demand3.specs.Numbers.{isAccepted, outsideRules, writesRelease, writesWithinOutputs}
 
@@ -73,10 +73,9 @@ ofReading reading.Check s n = nothing
 abbrev pub ofReceived : Received → ℕ → Event
 ofReceived r n = ofReading (r .reading) (take (r .len) (r .bytes)) n
 
--- every tick counts; an input amounts to nothing
+-- a tick is a tick call answered 0; every tick counts
 unfoldable pub eventOf : Call → ℕ → Event
-eventOf tick n = aTick
-eventOf (input xs) n = nothing
+eventOf (tick xs) n = choose (isAccepted n) aTick nothing
 eventOf (frame port body room) n = ofReceived (readFrame body) n
 
 -- whether a request is a release order, and whether it is an output write

@@ -3,10 +3,11 @@
 // history, and each call continues every history that ended in the agent passed to it.
 ghost use mathlib.Core.Path.{_≡_};
 ghost use lib.ListN.{length};
-ghost use Rattle.rules.specs.Calls.{tick, input, frame, tickCall, inputCall, frameCall, Answers, AnswersFrame};
+ghost use Rattle.rules.specs.Calls.{tick, frame, tickCall, frameCall, Answers, AnswersFrame};
 ghost use Rattle.rules.specs.PowerUp.{powerUp};
 ghost use Rattle.demand3.specs.History.{powerOn};
 ghost use Rattle.demand3.specs.Reached.{Reached, Continues};
+use agent_state::answers::ACCEPTED;
 use rules::Agent;
 
 // Power-up with MAC, IID and VER.
@@ -17,26 +18,18 @@ pub extern "C" fn saturn_power_up(agent: &mut Agent, mac: u64, iid: u64, ver: u1
     *agent = agent::power_up::power_up(mac, iid, ver);
 }
 
-// One millisecond.
+// One millisecond, with the 64 inputs. A call that is refused leaves the agent untouched.
 #[no_mangle]
-pub extern "C" fn saturn_tick(agent: &mut Agent) -> u8
-    ensures { λ r. ⌜ Answers (tickCall (now (agent .entry))) r (now (agent .exit))
-        × Continues (now (agent .entry)) tick r (now (agent .exit)) ⌝ }
+pub extern "C" fn saturn_tick(agent: &mut Agent, inputs: &[u8]) -> u8
+    ensures { λ r. ⌜ Answers (tickCall (now (agent .entry)) (now (inputs .entry))) r (now (agent .exit))
+        × Continues (now (agent .entry)) (tick (now (inputs .entry))) r (now (agent .exit)) ⌝ }
 {
-    let told = agent::calls::tick(*agent);
-    *agent = told.agent;
-    told.answer
-}
-
-// The 64 inputs.
-#[no_mangle]
-pub extern "C" fn saturn_inputs(agent: &mut Agent, inputs: &[u8]) -> u8
-    ensures { λ r. ⌜ Answers (inputCall (now (agent .entry)) (now (inputs .entry))) r (now (agent .exit))
-        × Continues (now (agent .entry)) (input (now (inputs .entry))) r (now (agent .exit)) ⌝ }
-{
-    let told = agent::calls::inputs(*agent, inputs);
-    *agent = told.agent;
-    told.answer
+    let answer = agent::calls::tick_answer(*agent, inputs);
+    if answer != ACCEPTED {
+        return answer;
+    }
+    *agent = agent_ticks::on_tick::on_tick(*agent, inputs);
+    answer
 }
 
 // A body received on a port, and the reply buffer, whose bytes past what is sent keep their value.

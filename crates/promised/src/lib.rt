@@ -3,7 +3,7 @@
 // contract is used.
 ghost use mathlib.Core.Path.{_≡_};
 ghost use lib.ListN.{length};
-ghost use Rattle.rules.specs.Calls.{tick as Calls·tick, input as Calls·input, frame as Calls·frame, tickCall, inputCall, frameCall, Answers, AnswersFrame};
+ghost use Rattle.rules.specs.Calls.{tick as Calls·tick, frame as Calls·frame, tickCall, frameCall, Answers, AnswersFrame};
 ghost use Rattle.rules.specs.PowerUp.{powerUp};
 ghost use Rattle.demand3.specs.History.{powerOn};
 ghost use Rattle.demand3.specs.Reached.{Reached, Continues};
@@ -18,17 +18,11 @@ pub fn power_up(mac: u64, iid: u64, ver: u16) -> Agent
     agent::power_up::power_up(mac, iid, ver)
 }
 
-pub fn tick(a: Agent) -> Told
-    ensures { λ r. ⌜ Answers (tickCall a) (r .answer) (r .agent) × Continues a Calls·tick (r .answer) (r .agent) ⌝ }
+pub fn tick(a: Agent, xs: &[u8]) -> Told
+    ensures { λ r. ⌜ Answers (tickCall a (now (xs .entry))) (r .answer) (r .agent)
+        × Continues a (Calls·tick (now (xs .entry))) (r .answer) (r .agent) ⌝ }
 {
-    agent::calls::tick(a)
-}
-
-pub fn inputs(a: Agent, xs: &[u8]) -> Told
-    ensures { λ r. ⌜ Answers (inputCall a (now (xs .entry))) (r .answer) (r .agent)
-        × Continues a (Calls·input (now (xs .entry))) (r .answer) (r .agent) ⌝ }
-{
-    agent::calls::inputs(a, xs)
+    agent::calls::tick(a, xs)
 }
 
 pub fn frame(a: Agent, port: u8, body: &[u8], reply: &mut [u8]) -> Handled

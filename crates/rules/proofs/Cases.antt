@@ -23,7 +23,7 @@ use Rattle.frame_writing.specs.Writing.{frameLine}
 use Rattle.frame_reading.proofs.Receiving.{appIn}
 use Rattle.rules.specs.Answers.{accepted, bodyLength, stuffing, unstuffedLength, fcs, reserved, elsewhere, typ, form, crc, source, addressee, cycle, repeat, outOfOrder, tooMany, outsideRules, notAllowed, eightOthers, unsound, replyRoom, hostInput}
 use Rattle.rules.specs.Assignments.{assignable, onTid, onFirstSid, onLaterSid, onSid}
-use Rattle.rules.specs.Calls.{leastRoom, tickCall, inputCall, frameCall, Call, tick, input, frame, act}
+use Rattle.rules.specs.Calls.{leastRoom, tickCall, frameCall, Call, tick, frame, act}
 use Rattle.rules.specs.FrameCall.{onKind, onRead, isOwn, onApp, onVerdict, onBody, onFrame}
 use Rattle.rules.specs.Inputs.{withInputs}
 use Rattle.rules.specs.Registers.{macAt, iidAt, tidAt, sidAt, statut, adRef, szRef, image, lowBytes, lowNumber}
@@ -103,8 +103,7 @@ pub data FrameCase (a : Agent) (body : List ℕ) : Deed → Type 0 where
 pub data CallCase (a : Agent) : Call → Outcome → Type 0 where
   unsoundly : {call : Call} → sound a ≡ false → CallCase a call (outcome unsound a)
   hosts : {call : Call} (n : ℕ) → isHosts n ≡ true → CallCase a call (outcome n a)
-  ticks : CallCase a tick (outcome accepted (ticked a))
-  stores : {xs : List ℕ} → length xs ≡ image → CallCase a (input xs) (outcome accepted (withInputs xs a))
+  ticks : {xs : List ℕ} → length xs ≡ image → CallCase a (tick xs) (outcome accepted (ticked (withInputs xs a)))
   frames : {port room : ℕ} {body : List ℕ} {d : Deed} → FrameCase a body d → CallCase a (frame port body room) (sent d)
 
 -- ---- the rules taken apart
@@ -226,11 +225,10 @@ module _ (port : ℕ) (a : Agent) where
     frame-case = verdict-case (readBody body .verdict) refl
 
 pub call-case : (a : Agent) (call : Call) → CallCase a call (act a call)
-unfolding tickCall inputCall frameCall
-call-case a tick = by-test (CallCase a tick) (sound a) (λ e. ticks) unsoundly
-call-case a (input xs) =
-    by-test (CallCase a (input xs)) (sound a)
-    (λ e. by-test (CallCase a (input xs)) (eqb (length xs) image) (λ h. stores (eqb-true (length xs) image h)) (λ h. hosts hostInput refl))
+unfolding tickCall frameCall
+call-case a (tick xs) =
+    by-test (CallCase a (tick xs)) (sound a)
+    (λ e. by-test (CallCase a (tick xs)) (eqb (length xs) image) (λ h. ticks (eqb-true (length xs) image h)) (λ h. hosts hostInput refl))
     unsoundly
 call-case a (frame port body room) =
     by-test (CallCase a (frame port body room)) (sound a)

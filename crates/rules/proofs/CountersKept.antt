@@ -32,8 +32,8 @@ use Rattle.rules.specs.declared.Span.{Span}
 use Rattle.rules.specs.declared.Span.the-variants as span
 use Rattle.laying.specs.Laying.{lineWith}
 use Rattle.rules.proofs.ButFor.{other-stored}
-use Rattle.rules.proofs.Calm.{Calm, calm-same, calm-before, calm-behind, calm-between, calm-fallen, quiet-sent, calm-synced, calm-ticked}
-use Rattle.rules.proofs.Cases.{Accepts, heard, read, wrote, renamed, first, again, later, KindCase, refuses, fell, outside, accepts, FrameCase, unread, readAs, CallCase, unsoundly, hosts, ticks, stores, frames, call-case, by-sent}
+use Rattle.rules.proofs.Calm.{Calm, calm-same, calm-then, calm-before, calm-behind, calm-between, calm-fallen, quiet-sent, calm-synced, calm-ticked}
+use Rattle.rules.proofs.Cases.{Accepts, heard, read, wrote, renamed, first, again, later, KindCase, refuses, fell, outside, accepts, FrameCase, unread, readAs, CallCase, unsoundly, hosts, ticks, frames, call-case, by-sent}
 use Rattle.rules.proofs.RowKeeps.{Keeps, calmly, recounted, not-status, row-keeps}
 use Rattle.rules.proofs.Spans.{Placed, inside, span-placed}
 
@@ -105,8 +105,7 @@ line-there check addr xs e = let z : _≡_ {A = ℕ} 0 1 = cc in omega arith
 call-counts : {a : Agent} {call : Call} {o : Outcome} → CallCase a call o → Counts a call o
 call-counts {a = a} (unsoundly e) = unsent (calmly _ _ (calm-same (a .regs)))
 call-counts {a = a} (hosts n h) = unsent (calmly _ _ (calm-same (a .regs)))
-call-counts {a = a} ticks = unsent (calmly _ _ (calm-ticked a))
-call-counts {a = a} (stores {xs = xs} e) = unsent (calmly _ _ (inputs-calm a xs))
+call-counts {a = a} (ticks {xs = xs} e) = unsent (calmly _ _ (calm-then (inputs-calm a xs) (calm-ticked (withInputs xs a))))
 call-counts {a = a} (frames {port = port} {room = room} {body = body} {d = d} c) =
     let call : Call = frame port body room in
     let k : Keeps a call (d .answer) (d .agent) = frame-keeps port room c in

@@ -16,6 +16,7 @@ use Rattle.frame_writing.proofs.Fits.{FittingFrame}
 use Rattle.frame_reading.proofs.Receiving.{appIn}
 use Rattle.rules.specs.Calls.{Call, act}
 use Rattle.rules.specs.Good.{Good, BytesCall}
+use Rattle.rules.specs.Inputs.{withInputs}
 use Rattle.rules.specs.Marks.{sequenceMarked}
 use Rattle.rules.specs.Refusals.{readOf, isSync, readsSync}
 use Rattle.rules.specs.Replies.{Outcome}
@@ -25,7 +26,7 @@ use Rattle.rules.specs.Writes.{spanOf}
 use Rattle.rules.specs.declared.Agent.{Agent}
 use Rattle.rules.specs.declared.Deed.{Deed}
 use Rattle.rules.proofs.Assigning.{good-tid, good-later, good-first}
-use Rattle.rules.proofs.Cases.{takenBy, Passes, Accepts, heard, read, wrote, renamed, first, again, later, KindCase, refuses, fell, outside, accepts, FrameCase, unread, readAs, CallCase, unsoundly, hosts, ticks, stores, frames, call-case, by-sent}
+use Rattle.rules.proofs.Cases.{takenBy, Passes, Accepts, heard, read, wrote, renamed, first, again, later, KindCase, refuses, fell, outside, accepts, FrameCase, unread, readAs, CallCase, unsoundly, hosts, ticks, frames, call-case, by-sent}
 use Rattle.rules.proofs.Hearing.{good-synced}
 use Rattle.rules.proofs.Kept.{GoodTo, good-counting}
 use Rattle.rules.proofs.MarkSteps.{sequence-marks, row-marks}
@@ -85,8 +86,7 @@ module _ {a : Agent} (g : GoodTo 254 a) where
   good-call : {call : Call} {o : Outcome} → BytesCall call → CallCase a call o → GoodTo 254 (o .agent)
   good-call b (unsoundly e) = g
   good-call b (hosts n h) = g
-  good-call b ticks = good-tick a g
-  good-call b (stores {xs = xs} e) = good-inputs 254 a g xs e b
+  good-call b (ticks {xs = xs} e) = good-tick (withInputs xs a) (good-inputs 254 a g xs e b)
   good-call b (frames {d = d} c) = by-sent (λ o. GoodTo 254 (o .agent)) d (good-frame b c) (λ f. good-sent 254 (d .agent) (good-frame b c))
 
 pub good-next : (a : Agent) (call : Call) → Good a → BytesCall call → Good (act a call .agent)

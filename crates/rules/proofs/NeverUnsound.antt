@@ -16,7 +16,7 @@ use Rattle.rules.specs.Sound.{sound}
 use Rattle.rules.specs.State.{running}
 use Rattle.rules.specs.declared.Agent.{Agent}
 use Rattle.rules.specs.declared.Deed.{Deed}
-use Rattle.rules.proofs.Cases.{isHosts, KindCase, refuses, fell, outside, accepts, FrameCase, unread, readAs, CallCase, unsoundly, hosts, ticks, stores, frames, call-case, by-sent}
+use Rattle.rules.proofs.Cases.{isHosts, KindCase, refuses, fell, outside, accepts, FrameCase, unread, readAs, CallCase, unsoundly, hosts, ticks, frames, call-case, by-sent}
 use Rattle.rules.proofs.MarkSteps.{isMarking, apart}
 
 abbrev Other : ℕ → Type 0
@@ -35,8 +35,7 @@ frame-other (readAs f v e c) = kind-other c
 call-other : {a : Agent} {call : Call} {o : Outcome} → sound a ≡ true → CallCase a call o → Other (o .answer)
 call-other s (unsoundly e) = never (sym e ∙ s)
 call-other s (hosts n h) = apart isHosts n unsound h refl
-call-other s ticks = refl
-call-other s (stores e) = refl
+call-other s (ticks e) = refl
 call-other s (frames {d = d} c) = by-sent (λ o. Other (o .answer)) d (frame-other c) (λ f. frame-other c)
 
 pub never-unsound : (a : Agent) (call : Call) → Good a → act a call .answer ≡ unsound → ⊥

@@ -19,7 +19,7 @@ use Rattle.rules.specs.declared.Agent.{Agent}
 use Rattle.rules.specs.declared.Deed.{Deed}
 use Rattle.rules.specs.declared.Reply.the-variants.{Silent}
 use Rattle.rules.proofs.ButFor.{but-for}
-use Rattle.rules.proofs.Cases.{isHosts, KindCase, refuses, fell, outside, accepts, FrameCase, unread, readAs, CallCase, unsoundly, hosts, ticks, stores, frames, call-case, by-sent, sent-silent}
+use Rattle.rules.proofs.Cases.{isHosts, KindCase, refuses, fell, outside, accepts, FrameCase, unread, readAs, CallCase, unsoundly, hosts, ticks, frames, call-case, by-sent, sent-silent}
 use Rattle.rules.proofs.Makes.{makes}
 use Rattle.rules.proofs.MarkSteps.{onlyMarks, isFrames, isMarking}
 
@@ -76,8 +76,7 @@ module _ {a : Agent} where
   call-refused : {call : Call} {o : Outcome} → CallCase a call o → (o .answer ≡ accepted → ⊥) → Refused a call o
   call-refused {call = call} (unsoundly e) z = refusal call _ a refl refl
   call-refused {call = call} (hosts n h) z = refusal call n a (hosts-number n h) (hosts-row (syncInRun a call) n h)
-  call-refused ticks z = absurd (z refl)
-  call-refused (stores e) z = absurd (z refl)
+  call-refused (ticks e) z = absurd (z refl)
   call-refused (frames {port = port} {room = room} {body = body} {d = d} c) z =
       let w = frame-refused c (λ e. z (sent-answer d ∙ e)) in
       subst (Refused a (frame port body room)) (sym (sent-silent d (w .silent))) (refusal (frame port body room) (d .answer) (d .agent) (w .number) (w .state))

@@ -19,12 +19,12 @@ use Rattle.rules.specs.declared.Agent.{Agent}
 abbrev pub leastRoom : ℕ
 leastRoom = 545
 
-unfoldable pub tickCall : Agent → Outcome
-tickCall a = choose (sound a) (outcome accepted (ticked a)) (outcome unsound a)
-
-unfoldable pub inputCall : Agent → List ℕ → Outcome
-inputCall a xs =
-    choose (sound a) (choose (eqb (length xs) image) (outcome accepted (withInputs xs a)) (outcome hostInput a)) (outcome unsound a)
+-- the inputs: they are stored, then the tick runs
+unfoldable pub tickCall : Agent → List ℕ → Outcome
+tickCall a xs =
+    choose (sound a)
+    (choose (eqb (length xs) image) (outcome accepted (ticked (withInputs xs a))) (outcome hostInput a))
+    (outcome unsound a)
 
 -- a port, a body, and the length of the reply buffer
 unfoldable pub frameCall : Agent → ℕ → List ℕ → ℕ → Outcome
@@ -49,11 +49,9 @@ AnswersFrame o answer agent sent before after =
 
 -- one call in a list of calls
 pub data Call : Type 0 where
-  tick : Call
-  input : List ℕ → Call
+  tick : (inputs : List ℕ) → Call
   frame : (port : ℕ) (body : List ℕ) (room : ℕ) → Call
 
 abbrev pub act : Agent → Call → Outcome
-act a tick = tickCall a
-act a (input xs) = inputCall a xs
+act a (tick xs) = tickCall a xs
 act a (frame port body room) = frameCall a port body room

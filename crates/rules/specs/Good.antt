@@ -4,7 +4,7 @@ use mathlib.Core.Bool.{true}
 use mathlib.Core.Path.{_≡_}
 use lib.ListN.{length}
 use Rattle.base.specs.Bytes.{Bytes}
-use Rattle.rules.specs.Calls.{Call, tick, input, frame}
+use Rattle.rules.specs.Calls.{Call, tick, frame}
 use Rattle.rules.specs.Sound.{sound}
 use Rattle.rules.specs.declared.Agent.{Agent}
 
@@ -16,6 +16,5 @@ pub record Good (a : Agent) : Type 0 where
 
 -- what the types say of a call: inputs and body are bytes
 abbrev pub BytesCall : Call → Type 0
-BytesCall tick = Unit
-BytesCall (input xs) = Bytes xs
+BytesCall (tick xs) = Bytes xs
 BytesCall (frame port body room) = Bytes body

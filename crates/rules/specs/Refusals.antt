@@ -15,7 +15,7 @@ use Rattle.frame_kinds.specs.declared.kinds.Frame.{Frame}
 use Rattle.frame_forms.specs.declared.Read.{Read}
 use Rattle.frame_forms.specs.declared.Read.the-variants.{Valid, Kind, Form, Check}
 use Rattle.rules.specs.Answers.{bodyLength, fcs, reserved, elsewhere, typ, form, crc, source, addressee, cycle, repeat, outOfOrder, tooMany, outsideRules, hostInput}
-use Rattle.rules.specs.Calls.{Call, tick, input, frame, leftIn}
+use Rattle.rules.specs.Calls.{Call, tick, frame, leftIn}
 use Rattle.rules.specs.Fallback.{withheld, enterFallback}
 use Rattle.rules.specs.FrameCall.{agentRead}
 use Rattle.rules.specs.Marks.{counter, lineMarked, formatMarked, sequenceMarked}
@@ -163,8 +163,7 @@ readsSync Form = false
 readsSync Check = false
 
 abbrev pub bringsSync : Call → Bool
-bringsSync tick = false
-bringsSync (input xs) = false
+bringsSync (tick xs) = false
 bringsSync (frame port body room) = readsSync (readOf body)
 
 abbrev pub syncInRun : Agent → Call → Bool

@@ -12,7 +12,7 @@ use Rattle.base.proofs.Bytes.{bytes-nil, bytes-append}
 use Rattle.base.proofs.Choosing.{choose-true, choose-false}
 use Rattle.fields.specs.Fields.{laid, fieldsAt, numbers}
 use Rattle.fields.proofs.Tables.{length-laid, bytes-laid, read-back-at}
-use Rattle.rules.specs.Calls.{Call, tick, input, frame}
+use Rattle.rules.specs.Calls.{Call, tick, frame}
 use Rattle.rules.specs.Good.{BytesCall}
 use Rattle.rules.specs.declared.Agent.{Agent}
 use Rattle.demand3.specs.Claim.{BytesCalls}
@@ -21,8 +21,7 @@ use Rattle.runs.specs.CallBytes.{kindOf, portOf, roomOf, bytesIn, callOf
 
 -- no list is left out: the bytes of calls whose bodies and inputs are bytes are bytes
 bytes-in : (x : Call) → BytesCall x → Bytes (bytesIn x)
-bytes-in tick b = bytes-nil
-bytes-in (input xs) b = b
+bytes-in (tick xs) b = b
 bytes-in (frame port body room) b = b
 
 pub list-bytes : (calls : List Call) → BytesCalls calls → Bytes (listBytes calls)
@@ -33,21 +32,17 @@ list-bytes (x ∷ xs) b =
 
 -- ---- which call the code makes, by the kind
 
-pub as-tick : (kind port : ℕ) (bytes : List ℕ) (room : ℕ) → kind ≡ 0 → callOf kind port bytes room ≡ tick
+pub as-tick : (kind port : ℕ) (bytes : List ℕ) (room : ℕ) → kind ≡ 0 → callOf kind port bytes room ≡ tick bytes
 as-tick kind port bytes room h = choose-true _ _ (eq-eqb kind 0 h)
 
-pub as-input : (kind port : ℕ) (bytes : List ℕ) (room : ℕ) → (kind ≡ 0 → ⊥) → kind ≡ 1 → callOf kind port bytes room ≡ input bytes
-as-input kind port bytes room n h = choose-false _ _ (ne-eqb kind 0 n) ∙ choose-true _ _ (eq-eqb kind 1 h)
-
-pub as-frame : (kind port : ℕ) (bytes : List ℕ) (room : ℕ) → (kind ≡ 0 → ⊥) → (kind ≡ 1 → ⊥) → callOf kind port bytes room ≡ frame port bytes room
-as-frame kind port bytes room n m = choose-false _ _ (ne-eqb kind 0 n) ∙ choose-false _ _ (ne-eqb kind 1 m)
+pub as-frame : (kind port : ℕ) (bytes : List ℕ) (room : ℕ) → (kind ≡ 0 → ⊥) → callOf kind port bytes room ≡ frame port bytes room
+as-frame kind port bytes room n = choose-false _ _ (ne-eqb kind 0 n)
 
 pub continues-as : (a : Agent) (z y : Call) (answer : ℕ) (b : Agent) → z ≡ y → Continues a y answer b → Continues a z answer b
 continues-as a z y answer b e c = subst (λ (w : Call). Continues a w answer b) (sym e) c
 
 same-call : (x : Call) → callOf (kindOf x) (portOf x) (bytesIn x) (roomOf x) ≡ x
-same-call tick = refl
-same-call (input xs) = refl
+same-call (tick xs) = refl
 same-call (frame port body room) = refl
 
 -- ---- a step
@@ -68,8 +63,7 @@ pub part-is : (from len : ℕ) (s : List ℕ) → take (from + len - from) (drop
 part-is from len s = let e : from + len - from ≡ len = omega arith in ap (λ (i : ℕ). take i (drop from s)) e
 
 kind-fits : (x : Call) → kindOf x < 256
-kind-fits tick = omega arith
-kind-fits (input xs) = omega arith
+kind-fits (tick xs) = omega arith
 kind-fits (frame port body room) = omega arith
 
 module _ (s : List ℕ) (at room : ℕ) (inside : at < length s) (fits : length s < 2 ^ 64) (room-fits : room < 2 ^ 64)

@@ -6,34 +6,30 @@ use lib.Dec.{eqb}
 use lib.ListN.{length, drop}
 use Rattle.base.specs.Choice.{choose}
 use Rattle.fields.specs.Fields.{laid}
-use Rattle.rules.specs.Calls.{Call, tick, input, frame}
+use Rattle.rules.specs.Calls.{Call, tick, frame}
 use Rattle.rules.specs.declared.Agent.{Agent}
 use Rattle.demand3.specs.Reached.{Continues}
 
 -- the parts of a call: a number for its kind, its port, the room for a reply, its bytes
 abbrev pub kindOf : Call → ℕ
-kindOf tick = 0
-kindOf (input xs) = 1
-kindOf (frame port body room) = 2
+kindOf (tick xs) = 0
+kindOf (frame port body room) = 1
 
 abbrev pub portOf : Call → ℕ
-portOf tick = 0
-portOf (input xs) = 0
+portOf (tick xs) = 0
 portOf (frame port body room) = port
 
 abbrev pub roomOf : Call → ℕ
-roomOf tick = 0
-roomOf (input xs) = 0
+roomOf (tick xs) = 0
 roomOf (frame port body room) = room
 
 abbrev pub bytesIn : Call → List ℕ
-bytesIn tick = []
-bytesIn (input xs) = xs
+bytesIn (tick xs) = xs
 bytesIn (frame port body room) = body
 
 -- the call with these parts
 abbrev pub callOf : ℕ → ℕ → List ℕ → ℕ → Call
-callOf kind port bytes room = choose (eqb kind 0) tick (choose (eqb kind 1) (input bytes) (frame port bytes room))
+callOf kind port bytes room = choose (eqb kind 0) (tick bytes) (frame port bytes room)
 
 -- kind and port in a byte each, room and length in eight each, then the bytes
 abbrev pub heading : Call → List (ℕ × ℕ)

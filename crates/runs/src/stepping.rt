@@ -9,15 +9,12 @@ use fields::byte_field;
 use fields::field;
 use rules::Agent;
 
-// Makes the call with these parts: kind 0 is a tick, 1 inputs, any other a frame.
+// Makes the call with these parts: kind 0 is a tick with its inputs, any other a frame.
 fn call(a: Agent, kind: u8, port: u8, bytes: &[u8], reply: &mut [u8]) -> Told
     ensures { λ r. ⌜ Continues a (callOf kind port (now (bytes .entry)) (length (now (reply .entry)))) (r .answer) (r .agent) ⌝ }
 {
     if kind == 0 {
-        return promised::tick(a);
-    }
-    if kind == 1 {
-        return promised::inputs(a, bytes);
+        return promised::tick(a, bytes);
     }
     let handled = promised::frame(a, port, bytes, reply);
     let agent = handled.agent;

@@ -1,5 +1,5 @@
--- The script's module is good after every line, whatever the lines are: so every tick and every input is answered 0, as
--- the definition prints it, and no line prints 19. Assumes nothing.
+-- The script's module is good after every line, whatever the lines are: so every tick call is answered 0, as the
+-- definition prints it, and no line prints 19. Assumes nothing.
 use mathlib.Core.Path.{_≡_}
 use mathlib.Core.List.{List, [], _∷_}
 use mathlib.Core.Option.{Option, none, some}
@@ -7,10 +7,11 @@ use Prim.Native.Nat.{ℕ, zero, suc, _-_, _≤_, _<_}
 use native.Mathlib.Omega.{arith}
 use borrow.Author.Tests.{eq-eqb, eqb-true, ltb-false}
 use lib.Dec.{eqb, ltb}
-use lib.ListN.{length, drop, getD}
+use lib.ListN.{length, drop, getD, length-drop}
+use lib.Seq.{length-take-le}
 use Rattle.base.specs.Bytes.{Bytes}
 use Rattle.base.specs.Choice.{within}
-use Rattle.base.proofs.Bytes.{bytes-nil, bytes-cons}
+use Rattle.base.proofs.Bytes.{bytes-nil, bytes-cons, bytes-take, bytes-drop}
 use Rattle.base.proofs.Choosing.{by-test}
 use Rattle.text.specs.Decimal.{decimalOf}
 use Rattle.text.specs.Hex.{digitValue, pairOf, paired, hexPairs}
@@ -19,15 +20,16 @@ use Rattle.text.specs.declared.decimal.Decimal.the-variants.{Number, NotNumber}
 use Rattle.text.specs.declared.hex.Pair.{Pair}
 use Rattle.text.specs.declared.hex.Pair.the-variants.{Byte, Other}
 use Rattle.rules.specs.Calls as calls
-use Rattle.rules.specs.Calls.{tickCall, inputCall}
+use Rattle.rules.specs.Calls.{tickCall}
 use Rattle.rules.specs.Good.{Good}
+use Rattle.rules.specs.Registers.{inputsAt, image}
 use Rattle.rules.specs.declared.Agent.{Agent}
 use Rattle.rules.proofs.GoodNext.{good-next}
 use Rattle.rules.proofs.GoodStart.{good-start}
 use Rattle.rules.proofs.NeverUnsound.{never-unsound}
 use Rattle.console.specs.Programs.{nextAll}
 use Rattle.script_lines.specs.Forms.{Step, ticks, frame, inputs, bad, longest, mostTicks, ticksOf, frameOf, inputsOf, formOf, lineOf}
-use Rattle.script_lines.specs.Doing.{afterTicks, done}
+use Rattle.script_lines.specs.Doing.{heldInputs, afterTicks, done}
 use Rattle.script.specs.Playing.{start, after, scripted}
 use Rattle.script.specs.declared.playing.Player.{Player}
 use Rattle.script_text.specs.declared.View.{View}
@@ -100,17 +102,24 @@ line-sized s =
     (λ p. by-test Sized (eqb c 0x49) (λ i. inputs-sized (hexPairs rest) (pairs-bytes rest)) (λ i. bad-sized))))
     (λ f. bad-sized))
 
+-- ---- the inputs that a good agent holds are 64 bytes
+held-bytes : (a : Agent) → Good a → Bytes (heldInputs a)
+held-bytes a g = bytes-take image (drop inputsAt (a .regs)) (bytes-drop inputsAt (a .regs) (g .bytes))
+
+pub held-64 : (a : Agent) → Good a → length (heldInputs a) ≡ 64
+held-64 a g = length-take-le image (drop inputsAt (a .regs)) (omega (arith, g .registers, length-drop inputsAt (a .regs)))
+
 -- ---- every line leaves a good agent
 ticks-good : (n : ℕ) (a : Agent) → Good a → Good (afterTicks n a)
 unfolding afterTicks
 ticks-good zero a g = g
-ticks-good (suc n) a g = ticks-good n (tickCall a .agent) (good-next a calls.tick g tt)
+ticks-good (suc n) a g = ticks-good n (tickCall a (heldInputs a) .agent) (good-next a (calls.tick (heldInputs a)) g (held-bytes a g))
 
 pub done-good : (a : Agent) (s : Step) → Good a → Sized s → Good (done a s .agent)
 unfolding Sized
 done-good a (ticks n) g h = ticks-good n a g
 done-good a (frame port body) g h = good-next a (calls.frame port body 545) g h
-done-good a (inputs xs) g h = good-next a (calls.input xs) g (h .1)
+done-good a (inputs xs) g h = good-next a (calls.tick xs) g (h .1)
 done-good a bad g h = g
 
 from-good : (view : View) (p : Player) (ls : List (List ℕ)) → Good (p .agent) → Good (nextAll (scripted view) p ls .agent)
@@ -121,13 +130,9 @@ pub script-good : (view : View) (ls : List (List ℕ)) → Good (nextAll (script
 script-good view ls = from-good view start ls (good-start 1 2 0)
 
 -- ---- so the answers printed are those of the calls
-pub tick-accepted : (a : Agent) → Good a → tickCall a .answer ≡ 0
+pub tick-accepted : (a : Agent) (xs : List ℕ) → Good a → length xs ≡ 64 → tickCall a xs .answer ≡ 0
 unfolding tickCall
-tick-accepted a g = rw (g .sound-is)
-
-pub inputs-accepted : (a : Agent) (xs : List ℕ) → Good a → length xs ≡ 64 → inputCall a xs .answer ≡ 0
-unfolding inputCall
-inputs-accepted a xs g e = rw (g .sound-is, eq-eqb (length xs) 64 e)
+tick-accepted a xs g e = rw (g .sound-is, eq-eqb (length xs) 64 e)
 
 pub never-19 : (a : Agent) (s : Step) → Good a → done a s .answer ≡ 19 → ⊥
 never-19 a (ticks n) g e = omega arith

@@ -11,10 +11,10 @@ use Rattle.rules.specs.Replies.{Outcome, outcome}
 use Rattle.rules.specs.declared.Agent.{Agent}
 use Rattle.agent_replies.specs.Handling.{told}
 use Rattle.agent_replies.specs.declared.sending.Handled.{Handled}
-use Rattle.script_lines.specs.Doing.{afterTicks}
+use Rattle.script_lines.specs.Doing.{heldInputs, afterTicks}
 
 -- ---- ticks
-pub ticks-turn : (n i : ℕ) (a b z : Agent) → i < n → b ≡ tickCall a .agent → afterTicks (n - i) a ≡ z → afterTicks (n - (i + 1)) b ≡ z
+pub ticks-turn : (n i : ℕ) (a b z : Agent) → i < n → b ≡ tickCall a (heldInputs a) .agent → afterTicks (n - i) a ≡ z → afterTicks (n - (i + 1)) b ≡ z
 unfolding afterTicks
 ticks-turn n i a b z h q e = ap (afterTicks (n - (i + 1))) q ∙ ap (λ (m : ℕ). afterTicks m a) (sym (left-turn n i h)) ∙ e
 

@@ -2,15 +2,16 @@
 ghost use mathlib.Core.Path.{_≡_};
 ghost use Prim.Native.Nat.{_≤_};
 ghost use lib.ListN.{take, replicate};
-ghost use Rattle.rules.specs.Calls.{inputCall, frameCall};
+ghost use Rattle.rules.specs.Calls.{tickCall, frameCall};
 ghost use Rattle.agent_replies.specs.Handling.{told};
 ghost use Rattle.script_lines.specs.Forms.{stepIn};
-ghost use Rattle.script_lines.specs.Doing.{afterTicks, done};
+ghost use Rattle.script_lines.specs.Doing.{heldInputs, afterTicks, done};
 use crate::forms::Form;
 use crate::forms::IMAGE;
 use agent::calls;
 use agent_replies::sending::Handled;
 use agent_state::answers::ACCEPTED;
+use agent_state::registers::INPUTS;
 use console::blocks::least;
 use rules::Agent;
 
@@ -21,24 +22,35 @@ pub fn no_reply() -> [u8; 545]
     [0; 545]
 }
 
+// One tick, with the inputs held.
+fn tick_held(a: Agent) -> Agent
+    ensures { λ r. ⌜ r ≡ tickCall a (heldInputs a) .agent ⌝ }
+{
+    let regs = a.regs;
+    let from = INPUTS;
+    let end = from + IMAGE;
+    let next = calls::tick(a, &regs[from..end]);
+    next.agent
+}
+
 fn ticks(a: Agent, n: u64) -> Agent
     ensures { λ r. ⌜ r ≡ afterTicks n a ⌝ }
 {
     let mut b = a;
     let mut i: u64 = 0;
     while i < n {
-        let next = calls::tick(b);
-        b = next.agent;
+        b = tick_held(b);
         i += 1;
     }
     b
 }
 
+// One tick, with the inputs of a line.
 fn inputs(a: Agent, bytes: &[u8]) -> Agent
-    ensures { λ r. ⌜ r ≡ inputCall a (take 64 (now (bytes .entry))) .agent ⌝ }
+    ensures { λ r. ⌜ r ≡ tickCall a (take 64 (now (bytes .entry))) .agent ⌝ }
 {
     let n = least(bytes.len(), IMAGE);
-    let next = calls::inputs(a, &bytes[..n]);
+    let next = calls::tick(a, &bytes[..n]);
     next.agent
 }
 

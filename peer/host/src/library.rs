@@ -25,8 +25,7 @@ pub const RUN: u8 = 1;
 
 extern "C" {
     pub fn saturn_power_up(agent: *mut SaturnAgent, mac: u64, iid: u64, ver: u16);
-    pub fn saturn_tick(agent: *mut SaturnAgent) -> u8;
-    pub fn saturn_inputs(agent: *mut SaturnAgent, inputs: *const u8, length: usize) -> u8;
+    pub fn saturn_tick(agent: *mut SaturnAgent, inputs: *const u8, inputs_length: usize) -> u8;
     pub fn saturn_frame(
         agent: *mut SaturnAgent,
         port: u8,

@@ -11,13 +11,12 @@ fn number(outcome: Result<(), Refusal>) -> u8 {
 }
 
 #[no_mangle]
-pub unsafe extern "C" fn peer_tick(agent: *mut Agent) -> u8 {
-    number((*agent).tick())
-}
-
-#[no_mangle]
-pub unsafe extern "C" fn peer_inputs(agent: *mut Agent, inputs: *const u8, length: usize) -> u8 {
-    number((*agent).set_inputs(slice::from_raw_parts(inputs, length)))
+pub unsafe extern "C" fn peer_tick(
+    agent: *mut Agent,
+    inputs: *const u8,
+    inputs_length: usize,
+) -> u8 {
+    number((*agent).tick(slice::from_raw_parts(inputs, inputs_length)))
 }
 
 #[no_mangle]

@@ -4,6 +4,7 @@
 mod bad;
 mod bodies;
 mod list;
+mod ticks;
 mod writes;
 
 pub use list::{of_list, ListCensus};
@@ -21,6 +22,8 @@ pub struct Census {
     player: Player,
     /// The port on which a body was accepted last.
     accepted: HashMap<Vec<u8>, u8>,
+    /// How many lines of inputs came one after another, up to this one.
+    in_a_row: usize,
 }
 
 /// A script as bytes.
@@ -29,6 +32,7 @@ pub fn of(script: &[u8]) -> Census {
         counts: BTreeMap::new(),
         player: Player::power_up(),
         accepted: HashMap::new(),
+        in_a_row: 0,
     };
     let mut lines = Lines::new(script);
     while let Some(line) = lines.next_line().expect("memory can be read") {
@@ -51,48 +55,62 @@ impl Census {
     }
 
     fn line(&mut self, line: &[u8]) {
-        match parse(line) {
+        let parsed = parse(line);
+        self.in_a_row = match parsed {
+            Some(Line::Inputs(_)) => self.in_a_row + 1,
+            _ => 0,
+        };
+        match parsed {
             None => {
                 self.add("bad line");
                 self.add(&format!("bad line: {}", bad::form(line)));
             }
             Some(Line::Ticks(count)) => {
                 self.add("answer  0");
-                (0..count).for_each(|_| self.tick());
+                let held = self.player.agent.registers.inputs();
+                for _ in 0..count {
+                    self.tick(&held);
+                }
             }
-            Some(line) => self.play(line),
+            Some(Line::Inputs(inputs)) => self.inputs(&inputs),
+            Some(Line::Frame { port, body }) => self.play(port, body),
         }
     }
 
-    fn tick(&mut self) {
+    fn tick(&mut self, inputs: &[u8]) -> Vec<&'static str> {
         let before = self.player.agent.clone();
         // A module that was powered up stays sound.
-        self.player.agent.tick().expect("a sound state");
-        let after = &self.player.agent;
-        let no_sync = after.since_sync as u32 >= after.sync_limit();
-        let pending_ended = before.registers[0x17] != after.registers[0x17];
-        if before.mode == Mode::Run && after.mode == Mode::Fallback {
-            self.add(match no_sync {
-                true => "left RUN: sync silence",
-                false => "left RUN: command silence",
-            });
-        } else if pending_ended {
-            self.add("pending release ended by silence");
+        let answer = self.player.agent.tick(inputs);
+        answer.expect("a sound state and 64 inputs");
+        let events = ticks::events(&before, &self.player.agent);
+        events.iter().for_each(|what| self.add(what));
+        events
+    }
+
+    fn inputs(&mut self, inputs: &[u8]) {
+        self.add("answer  0");
+        self.add("inputs");
+        match self.in_a_row {
+            2 => self.add("inputs, two in a row"),
+            6 => self.add("inputs, six in a row"),
+            _ => {}
         }
-        if before.mode == Mode::Run && self.player.agent.cycle < before.cycle {
-            self.add("wrap in RUN by the clock");
+        for what in self.tick(inputs) {
+            self.add(&format!("inputs: {what}"));
         }
     }
 
-    fn play(&mut self, line: Line) {
+    fn play(&mut self, port: u8, body: Vec<u8>) {
         let before = self.player.agent.clone();
-        let played = self.player.play_line(line.clone());
+        let line = Line::Frame {
+            port,
+            body: body.clone(),
+        };
+        let played = self.player.play_line(line);
         self.add(&format!("answer {:2}", played.answer));
         let after = self.player.agent.clone();
-        if let Line::Frame { port, body } = line {
-            self.frame(port, &body, &before, played.answer);
-            self.held_back(&before, &after, &played);
-        }
+        self.frame(port, &body, &before, played.answer);
+        self.held_back(&before, &after, &played);
         self.modes(&before, &after, &played);
         self.syncs(&before, &after, &played);
         self.replies(&played);

@@ -56,7 +56,7 @@ fn wrong_stuffing(tally: &mut Tally) {
 fn first_cycle(tally: &mut Tally) {
     let mut agent = Agent::power_up(1, 2, 0);
     for tick in 1..=255 {
-        agent.tick().expect("a sound state");
+        agent.tick(&[0; 64]).expect("a sound state");
         let expected = if tick < 255 { 0 } else { 1 };
         tally.check(agent.cycle == expected, &format!("P8, tick {tick}"));
     }

@@ -1,4 +1,4 @@
-//! Numbers 19 to 21: unsound states, small buffers, other ports, other inputs.
+//! Numbers 19 to 21: unsound states, small buffers, other ports. Other inputs are in `tick`.
 
 use super::module::{Bench, FIRST};
 use super::Tally;
@@ -83,22 +83,16 @@ pub fn run(tally: &mut Tally) {
         }
     }
     order(tally, &running);
-    inputs(tally);
 }
 
-/// All three calls answer 19 before all else and change nothing.
+/// Both calls answer 19 before all else and change nothing.
 fn unsound(tally: &mut Tally, what: &str, sound: &Agent, spoil: Spoil) {
     let mut agent = sound.clone();
     spoil(&mut agent);
     let before = agent.clone();
-    let numbers = [
-        agent.tick(),
-        agent.set_inputs(&[]),
-        agent.set_inputs(&[0; 64]),
-    ];
-    let mut right = numbers
+    let mut right = [0, 63, 64, 65]
         .iter()
-        .all(|&answer| answer == Err(Refusal::Unsound));
+        .all(|&length| agent.tick(&vec![9; length]) == Err(Refusal::Unsound));
     right &= agent.frame(3, &[], &mut []).number == 19;
     tally.check(right && agent == before, &format!("unsound: {what}"));
 }
@@ -119,19 +113,4 @@ fn order(tally: &mut Tally, sound: &Agent) {
         let kept = buffer.iter().all(|&byte| byte == 0x5A) && (agent == *sound) == (number != 1);
         tally.check(right && kept, &format!("port {port}, room {room}"));
     }
-}
-
-fn inputs(tally: &mut Tally) {
-    let mut agent = Agent::power_up(1, 2, 0);
-    for length in [0, 63, 65, 128] {
-        let answer = agent.set_inputs(&vec![9; length]);
-        let kept = agent == Agent::power_up(1, 2, 0);
-        tally.check(
-            answer == Err(Refusal::Host) && kept,
-            "inputs of another length",
-        );
-    }
-    let answer = agent.set_inputs(&[9; 64]);
-    let set = agent.registers.bytes[0xC0..] == [9; 64] && agent.registers[0xBF] == 0;
-    tally.check(answer == Ok(()) && set, "64 inputs");
 }

@@ -1,5 +1,6 @@
 //! Self checks: stored vectors, published and proved values, round trips of every kind, the
-//! cases on the bench, what the host may do wrong, the traps, the script and the frame program.
+//! cases on the bench, what the host may do wrong, the tick call, the traps, the script and the frame
+//! program.
 
 mod bench;
 mod host;
@@ -8,6 +9,7 @@ mod module;
 mod rules;
 mod script;
 mod spelling;
+mod tick;
 mod traps;
 
 use crate::body;
@@ -46,6 +48,7 @@ pub fn run() -> Tally {
     traps::run(&mut tally);
     rules::run(&mut tally);
     host::run(&mut tally);
+    tick::run(&mut tally);
     script::run(&mut tally);
     spelling::run(&mut tally);
     lists::run(&mut tally);

@@ -50,8 +50,9 @@ impl Bench {
     }
 
     pub fn ticks(&mut self, count: usize) {
+        let held = self.agent.registers.inputs();
         for _ in 0..count {
-            self.agent.tick().expect("a sound state");
+            self.agent.tick(&held).expect("a sound state");
         }
     }
 

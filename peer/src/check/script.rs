@@ -1,10 +1,12 @@
 //! The script program: document 01's example, the forms of lines, and what generated scripts
 //! bring up.
 
+use super::module::Bench;
 use super::Tally;
 use crate::census;
 use crate::generate;
-use crate::script::{self, Program};
+use crate::module::Mode;
+use crate::script::{self, Player, Program};
 
 /// From document 01, byte for byte.
 const EXAMPLE: (&str, &str) = (
@@ -43,7 +45,7 @@ const FORMS: [(&str, &str); 24] = [
 /// How often every answer must come up in 6,000 lines, at least.
 const OFTEN: usize = 50;
 
-const IN_A_SCRIPT: [(&str, usize); 13] = [
+const IN_A_SCRIPT: [(&str, usize); 17] = [
     ("entered RUN", 50),
     ("left RUN: sync silence", 10),
     ("left RUN: command silence", 10),
@@ -57,9 +59,13 @@ const IN_A_SCRIPT: [(&str, usize); 13] = [
     ("bad line", 50),
     ("repeat on the other port", 50),
     ("request of a deposed one in cycle 00h to 03h", 5),
+    ("inputs", 200),
+    ("inputs, two in a row", 20),
+    ("inputs: left RUN: sync silence", 5),
+    ("inputs: left RUN: command silence", 5),
 ];
 
-const IN_A_LONG_SCRIPT: [(&str, usize); 29] = [
+const IN_A_LONG_SCRIPT: [(&str, usize); 34] = [
     ("frame before the first SID", 20),
     ("recorded", 8),
     ("takeover in fallback", 10),
@@ -89,6 +95,11 @@ const IN_A_LONG_SCRIPT: [(&str, usize); 29] = [
     ("bad line: no count of ticks", 5),
     ("bad line: no inputs", 5),
     ("bad line: no pairs of hex digits", 5),
+    ("inputs: RUN, one tick before sync silence", 50),
+    ("inputs: RUN, one tick before command silence", 50),
+    ("inputs: end of a cycle in RUN", 100),
+    ("inputs: pending release ended by silence", 10),
+    ("inputs, six in a row", 4),
 ];
 
 /// The spans that can be written, and the modes in which they can.
@@ -106,6 +117,8 @@ pub fn run(tally: &mut Tally) {
     forms(tally);
     long_lines(tally);
     inputs(tally);
+    inputs_tick(tally);
+    inputs_in_run(tally);
     generated(tally);
     generated_edges(tally);
 }
@@ -183,6 +196,42 @@ fn inputs(tally: &mut Tally) {
             line.starts_with(expected) && set,
             &format!("I and {digits} digits"),
         );
+    }
+}
+
+/// `I` is one tick with its inputs, `T` keeps those held, and a BAD line does neither.
+fn inputs_tick(tally: &mut Tally) {
+    let inputs = |digit: &str| "I ".to_string() + &digit.repeat(128);
+    let lines = [
+        ("T 253".to_string(), "0 F 00", "0"),
+        (inputs("A"), "0 F 00", "A"),
+        (inputs("B") + "B", "BAD", ""),
+        ("T 1".to_string(), "0 F 01", "A"),
+        (inputs("C"), "0 F 01", "C"),
+        ("T 253".to_string(), "0 F 01", "C"),
+        (inputs("D"), "0 F 02", "D"),
+        ("T 60000".to_string(), "0 F ED", "D"),
+    ];
+    let input = lines.clone().map(|(line, ..)| line);
+    let printed = output(Program::Trace, input.join("\n").as_bytes());
+    for (number, ((_, expected, held), printed)) in
+        (1..).zip(lines.iter().zip(printed.lines().skip(1)))
+    {
+        let start = format!("{number} {expected}");
+        let right = printed.starts_with(&start) && printed.ends_with(&held.repeat(128));
+        tally.check(right, &format!("line {number} of ticks and inputs"));
+    }
+}
+
+/// Lines of inputs alone reach the sync limit, with the 20th of them.
+fn inputs_in_run(tally: &mut Tally) {
+    let mut player = Player::power_up();
+    player.agent = Bench::running(10, 2, 5, 0x07).agent;
+    for tick in 1..=20 {
+        let line = "I ".to_string() + &format!("{tick:02}").repeat(64);
+        let answer = player.play(line.as_bytes()).map(|played| played.answer);
+        let right = answer == Some(0) && (player.agent.mode == Mode::Run) == (tick < 20);
+        tally.check(right, &format!("line {tick} of inputs in RUN"));
     }
 }
 

@@ -1,11 +1,12 @@
 //! A script with lines lost, doubled, moved and changed, as a line would lose and delay frames.
 
 use crate::generate::random::Random;
+use crate::hex;
 
 pub fn some(random: &mut Random, lines: &mut Vec<Vec<u8>>) {
     for _ in 0..1 + lines.len() / 12 {
         let place = random.below(lines.len());
-        match random.below(6) {
+        match random.below(7) {
             0 if lines.len() > 1 => drop(lines.remove(place)),
             1 => {
                 let copy = on_other_port(&lines[place]);
@@ -21,9 +22,15 @@ pub fn some(random: &mut Random, lines: &mut Vec<Vec<u8>>) {
                 lines.swap(place, later);
             }
             4 => change(random, &mut lines[place]),
+            5 => lines.insert(place, inputs(random)),
             _ => lines.insert(place, format!("T {}", 1 + random.below(300)).into_bytes()),
         }
     }
+}
+
+fn inputs(random: &mut Random) -> Vec<u8> {
+    let inputs = [random.byte(); 64];
+    format!("I {}", hex::encode(&inputs)).into_bytes()
 }
 
 fn on_other_port(line: &[u8]) -> Vec<u8> {

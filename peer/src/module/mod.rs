@@ -1,11 +1,10 @@
-//! The agent of one SIL2 output module: its state, and what ticks, inputs and frames do to it.
+//! The agent of one SIL2 output module: its state, and what ticks and frames do to it.
 //!
 //! The names of document 01: `cycle` is c, `in_cycle` e, `since_sync` s, `since_output` q,
 //! `taken` k; t, n and m are in the registers.
 
 mod assignment;
 mod call;
-mod inputs;
 mod marks;
 mod mode;
 pub mod registers;

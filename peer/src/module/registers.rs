@@ -109,6 +109,11 @@ impl Registers {
         self.put(SID, &sid.to_le_bytes()[..3]);
     }
 
+    /// The inputs held: zeros, or those of the last tick call that was accepted.
+    pub fn inputs(&self) -> [u8; 64] {
+        self.bytes[INPUTS].try_into().expect("64 registers")
+    }
+
     /// t
     pub fn tcyc(&self) -> u8 {
         self[TCYC]

@@ -1,18 +1,30 @@
-//! One ms goes by.
+//! The tick call: the host gives the inputs, all 64 at once, and one ms goes by.
 
+use super::registers::INPUTS;
 use super::{Agent, Mode};
 use crate::refusal::Refusal;
 
 impl Agent {
-    pub fn tick(&mut self) -> Result<(), Refusal> {
+    /// Numbers 19 and 21: nothing is stored then, and no ms goes by.
+    pub fn tick(&mut self, inputs: &[u8]) -> Result<(), Refusal> {
         if !self.sound() {
             return Err(Refusal::Unsound);
         }
+        self.store(inputs)?;
         self.clocks_on();
         self.judge_silence();
         if self.in_cycle >= self.registers.tcyc() as u16 {
             self.end_cycle();
         }
+        Ok(())
+    }
+
+    fn store(&mut self, inputs: &[u8]) -> Result<(), Refusal> {
+        let registers = &mut self.registers.bytes[INPUTS];
+        if inputs.len() != registers.len() {
+            return Err(Refusal::Host);
+        }
+        registers.copy_from_slice(inputs);
         Ok(())
     }
 

@@ -11,8 +11,13 @@ const INPUT_DIGITS: usize = 128;
 
 #[derive(Clone, Debug, PartialEq, Eq)]
 pub enum Line {
+    /// So many ticks, with the inputs held.
     Ticks(u32),
-    Frame { port: u8, body: Vec<u8> },
+    Frame {
+        port: u8,
+        body: Vec<u8>,
+    },
+    /// One tick, with these inputs.
     Inputs(Vec<u8>),
 }
 

@@ -33,13 +33,15 @@ impl Player {
     pub fn play_line(&mut self, line: Line) -> Played {
         match line {
             Line::Ticks(count) => without_reply(self.ticks(count)),
-            Line::Inputs(inputs) => without_reply(self.agent.set_inputs(&inputs)),
+            Line::Inputs(inputs) => without_reply(self.agent.tick(&inputs)),
             Line::Frame { port, body } => self.frame(port, &body),
         }
     }
 
+    /// All with the inputs held.
     fn ticks(&mut self, count: u32) -> Result<(), Refusal> {
-        (0..count).try_for_each(|_| self.agent.tick())
+        let held = self.agent.registers.inputs();
+        (0..count).try_for_each(|_| self.agent.tick(&held))
     }
 
     fn frame(&mut self, port: u8, body: &[u8]) -> Played {

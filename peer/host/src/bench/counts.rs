@@ -22,7 +22,7 @@ fn run(workload: &Workload, side: &str, calls: usize) -> Result<u64, String> {
     let own = std::env::current_exe().map_err(|error| error.to_string())?;
     let output = Command::new("valgrind")
         .args(["--tool=callgrind", "--callgrind-out-file=/dev/null"])
-        .args(["tick", "inputs", "frame"].map(|call| format!("--toggle-collect={prefix}_{call}")))
+        .args(["tick", "frame"].map(|call| format!("--toggle-collect={prefix}_{call}")))
         .arg(own)
         .args(["run", side, workload.name, &calls.to_string()])
         .output()

@@ -1,12 +1,11 @@
-//! The two sides: an agent and the three calls on it, in the same shape.
+//! The two sides: an agent and the two calls on it, in the same shape.
 
-use host::library::{saturn_frame, saturn_inputs, saturn_tick, SaturnAgent};
-use host::second::{peer_frame, peer_inputs, peer_tick};
+use host::library::{saturn_frame, saturn_tick, SaturnAgent};
+use host::second::{peer_frame, peer_tick};
 use host::state;
 use peer::module::{Agent, REPLY_ROOM};
 
-type Tick<A> = unsafe extern "C" fn(*mut A) -> u8;
-type Inputs<A> = unsafe extern "C" fn(*mut A, *const u8, usize) -> u8;
+type Tick<A> = unsafe extern "C" fn(*mut A, *const u8, usize) -> u8;
 type Frame<A> = unsafe extern "C" fn(*mut A, u8, *const u8, usize, *mut u8, usize, *mut u16) -> u8;
 
 pub struct Side<A> {
@@ -14,7 +13,6 @@ pub struct Side<A> {
     pub reply: [u8; REPLY_ROOM],
     pub sent: u16,
     tick: Tick<A>,
-    inputs: Inputs<A>,
     frame: Frame<A>,
 }
 
@@ -25,7 +23,6 @@ impl Side<SaturnAgent> {
             reply: [0; REPLY_ROOM],
             sent: 0,
             tick: saturn_tick,
-            inputs: saturn_inputs,
             frame: saturn_frame,
         }
     }
@@ -38,7 +35,6 @@ impl Side<Agent> {
             reply: [0; REPLY_ROOM],
             sent: 0,
             tick: peer_tick,
-            inputs: peer_inputs,
             frame: peer_frame,
         }
     }
@@ -46,12 +42,8 @@ impl Side<Agent> {
 
 /// Neither the reply buffer nor anything else is cleared between calls.
 impl<A> Side<A> {
-    pub fn tick(&mut self) -> u8 {
-        unsafe { (self.tick)(&mut self.agent) }
-    }
-
-    pub fn inputs(&mut self, inputs: &[u8]) -> u8 {
-        unsafe { (self.inputs)(&mut self.agent, inputs.as_ptr(), inputs.len()) }
+    pub fn tick(&mut self, inputs: &[u8]) -> u8 {
+        unsafe { (self.tick)(&mut self.agent, inputs.as_ptr(), inputs.len()) }
     }
 
     pub fn frame(&mut self, body: &[u8]) -> u8 {

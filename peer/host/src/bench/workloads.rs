@@ -31,8 +31,8 @@ pub enum Call {
     Frame(Vec<u8>),
     /// The agent is rewound before the frame.
     FrameAgain(Vec<u8>),
-    Ticks,
-    Inputs(Vec<u8>),
+    /// The agent is rewound before the tick.
+    Tick(Vec<u8>),
 }
 
 pub const ALL: [Workload; 9] = [
@@ -73,31 +73,31 @@ pub const ALL: [Workload; 9] = [
     },
     Workload {
         name: "d1",
-        what: "ticks in RUN, 1 recorded",
+        what: "tick and inputs in RUN, 1 recorded",
         answer: Some(0),
         start: running,
         calls: ticks,
     },
     Workload {
         name: "d8",
-        what: "ticks in RUN, 8 recorded",
+        what: "tick and inputs in RUN, 8 recorded",
         answer: Some(0),
         start: running_with_eight,
         calls: ticks,
     },
     Workload {
         name: "df",
-        what: "ticks in fallback",
+        what: "tick and inputs in fallback",
         answer: Some(0),
         start: heard_in_fallback,
         calls: ticks,
     },
     Workload {
-        name: "e",
-        what: "inputs",
-        answer: Some(0),
+        name: "d0",
+        what: "tick with 63 inputs, refused with 21",
+        answer: Some(21),
         start: running,
-        calls: inputs,
+        calls: short_inputs,
     },
 ];
 
@@ -162,7 +162,7 @@ impl Call {
     fn length(&self) -> Option<usize> {
         match self {
             Call::Frame(body) | Call::FrameAgain(body) => Some(body.len()),
-            Call::Ticks | Call::Inputs(_) => None,
+            Call::Tick(_) => None,
         }
     }
 }
@@ -174,11 +174,10 @@ pub fn make<A: Settable>(side: &mut Side<A>, call: &Call) -> u8 {
             side.agent.rewind();
             side.frame(body)
         }
-        Call::Ticks => {
+        Call::Tick(inputs) => {
             side.agent.rewind();
-            side.tick()
+            side.tick(inputs)
         }
-        Call::Inputs(inputs) => side.inputs(inputs),
     }
 }
 
@@ -296,9 +295,9 @@ fn stream(damage: fn(&mut Random, &[u8]) -> Vec<u8>) -> Vec<Call> {
 }
 
 fn ticks() -> Vec<Call> {
-    vec![Call::Ticks]
+    vec![Call::Tick((0..64).collect())]
 }
 
-fn inputs() -> Vec<Call> {
-    vec![Call::Inputs((0..64).collect())]
+fn short_inputs() -> Vec<Call> {
+    vec![Call::Tick((0..63).collect())]
 }

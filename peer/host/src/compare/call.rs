@@ -1,13 +1,13 @@
 //! One call: what the second implementation says must come of it, and what the library does.
 
-use host::library::{saturn_frame, saturn_inputs, saturn_tick, SaturnAgent};
+use host::library::{saturn_frame, saturn_tick, SaturnAgent};
 use host::state;
 use peer::refusal::Refusal;
 
 #[derive(Clone, Debug)]
 pub enum Call {
-    Tick,
-    Inputs(Vec<u8>),
+    /// With inputs of any length.
+    Tick(Vec<u8>),
     Frame {
         port: u8,
         body: Vec<u8>,
@@ -47,8 +47,7 @@ pub fn wanted(before: &SaturnAgent, call: &Call) -> Left {
     }
     let Some(agent) = agent else { return left };
     left.answer = match call {
-        Call::Tick => number(agent.tick()),
-        Call::Inputs(inputs) => number(agent.set_inputs(inputs)),
+        Call::Tick(inputs) => number(agent.tick(inputs)),
         Call::Frame { port, body, room } => {
             let outcome = agent.frame(*port, body, &mut left.reply[..*room]);
             left.sent = outcome.sent as u16;
@@ -75,10 +74,9 @@ pub fn given(before: &SaturnAgent, call: &Call) -> Left {
     };
     let agent: *mut SaturnAgent = &mut left.state;
     left.answer = match call {
-        Call::Tick => unsafe { saturn_tick(agent) },
-        Call::Inputs(inputs) => {
+        Call::Tick(inputs) => {
             let kept = inputs.clone();
-            let answer = unsafe { saturn_inputs(agent, kept.as_ptr(), kept.len()) };
+            let answer = unsafe { saturn_tick(agent, kept.as_ptr(), kept.len()) };
             assert_eq!(kept, *inputs, "the inputs were written");
             answer
         }

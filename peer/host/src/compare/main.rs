@@ -1,7 +1,8 @@
 //! The static library beside the second implementation, call by call and byte by byte.
 //!
 //! `compare SEED SCRIPTS LINES`: SCRIPTS scripts of LINES lines each, with calls between the lines
-//! on unsound states, short buffers and other ports. Stops at the first difference.
+//! on unsound states, short buffers, other ports and inputs of other lengths. Stops at the first
+//! difference.
 
 mod alter;
 mod call;

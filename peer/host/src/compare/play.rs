@@ -3,11 +3,12 @@
 use crate::alter::{any_bytes, HARMLESS};
 use crate::call::{given, wanted, Call};
 use crate::spoil::WAYS;
-use crate::tally::{room, Tally};
+use crate::tally::{Tally, INPUTS_MAX, INPUTS_SOUND, INPUTS_UNSOUND, SHORT_BUFFERS};
 use host::library::SaturnAgent;
 use host::state;
 use peer::generate::random::Random;
 use peer::generate::{self, sample};
+use peer::module::registers::INPUTS;
 use peer::module::{Agent, REPLY_ROOM};
 use peer::script::{parse, Line};
 
@@ -23,9 +24,10 @@ pub struct Play<'a> {
     seed: u64,
     line: usize,
     state: SaturnAgent,
-    /// The next way, and the next short length.
+    /// The next way, the next short length, and the next length of inputs.
     way: usize,
     room: usize,
+    length: usize,
     tally: &'a mut Tally,
 }
 
@@ -38,6 +40,7 @@ impl<'a> Play<'a> {
             state: state::laid_out(&Agent::power_up(1, 2, 0), &state::BLANK),
             way: seed as usize,
             room: seed as usize * 101 % REPLY_ROOM,
+            length: seed as usize,
             random,
             tally,
         }
@@ -51,12 +54,13 @@ impl<'a> Play<'a> {
             match parse(line) {
                 None => {}
                 Some(Line::Ticks(count)) => {
+                    let tick = Call::Tick(self.state.regs[INPUTS].to_vec());
                     for _ in 0..count {
-                        self.keep(&Call::Tick)?;
+                        self.keep(&tick)?;
                     }
-                    self.between(&Call::Tick)?;
+                    self.between(&tick)?;
                 }
-                Some(Line::Inputs(inputs)) => self.both(&Call::Inputs(inputs))?,
+                Some(Line::Inputs(inputs)) => self.both(&Call::Tick(inputs))?,
                 Some(Line::Frame { port, body }) => {
                     let room = REPLY_ROOM + self.random.pick(&[0, 0, 1, 55]);
                     self.both(&Call::Frame { port, body, room })?;
@@ -128,6 +132,9 @@ impl<'a> Play<'a> {
                     return Err(format!("{} is answered {answer}: {other:?}", way.name));
                 }
                 self.tally.add(&format!("unsound: {}", way.name));
+                if let Call::Tick(inputs) = call {
+                    self.tally.add_length(INPUTS_UNSOUND, inputs.len());
+                }
                 return Ok(());
             }
         }
@@ -136,10 +143,9 @@ impl<'a> Play<'a> {
 
     /// The call itself or one of the others, now and then with a wrong argument too.
     fn some_call(&mut self, call: &Call) -> Call {
-        let length = self.random.pick(&[0, 63, 64, 64, 64, 65]);
         match (self.random.below(4), call) {
-            (0, _) => Call::Tick,
-            (1, _) => Call::Inputs(sample::bytes(&mut self.random, length)),
+            (0, _) => Call::Tick(sample::bytes(&mut self.random, 64)),
+            (1, _) => Call::Tick(self.next_inputs()),
             (2, Call::Frame { body, .. }) => Call::Frame {
                 port: self.random.pick(&[0, 1, 2, 3]),
                 body: body.clone(),
@@ -147,6 +153,12 @@ impl<'a> Play<'a> {
             },
             _ => call.clone(),
         }
+    }
+
+    /// Of the next length.
+    fn next_inputs(&mut self) -> Vec<u8> {
+        self.length = (self.length + 1) % (INPUTS_MAX + 1);
+        sample::bytes(&mut self.random, self.length)
     }
 
     /// The next length, on a port that may be wrong too.
@@ -163,11 +175,11 @@ impl<'a> Play<'a> {
         };
         let before = self.state;
         self.compare(&before, &short)?;
-        self.tally.add(&room(self.room));
+        self.tally.add_length(SHORT_BUFFERS, self.room);
         Ok(())
     }
 
-    /// Any port with the body at hand, and inputs of any length.
+    /// Any port with the body at hand, and inputs of the next length.
     fn wrong_host(&mut self, call: &Call) -> Result<(), String> {
         let before = self.state;
         if let Call::Frame { body, .. } = call {
@@ -176,10 +188,9 @@ impl<'a> Play<'a> {
             self.compare(&before, &Call::Frame { port, body, room })?;
             self.tally.add("any port");
         }
-        let length = self.random.below(200);
-        let inputs = sample::bytes(&mut self.random, length);
-        self.compare(&before, &Call::Inputs(inputs))?;
-        self.tally.add("inputs of any length");
+        let inputs = self.next_inputs();
+        self.tally.add_length(INPUTS_SOUND, inputs.len());
+        self.compare(&before, &Call::Tick(inputs))?;
         Ok(())
     }
 

@@ -7,9 +7,24 @@ use std::collections::BTreeMap;
 use std::fmt;
 use std::process::ExitCode;
 
+pub const SHORT_BUFFERS: &str = "short buffers";
+pub const INPUTS_SOUND: &str = "inputs, the state sound";
+pub const INPUTS_UNSOUND: &str = "inputs, the state unsound";
+
+/// The longest inputs that are tried between the lines.
+pub const INPUTS_MAX: usize = 130;
+
+/// What is tried in every length, and the longest.
+const LENGTHS: [(&str, usize); 3] = [
+    (SHORT_BUFFERS, REPLY_ROOM - 1),
+    (INPUTS_SOUND, INPUTS_MAX),
+    (INPUTS_UNSOUND, INPUTS_MAX),
+];
+
 #[derive(Default)]
 pub struct Tally {
     counts: BTreeMap<String, usize>,
+    lengths: BTreeMap<(&'static str, usize), usize>,
 }
 
 impl Tally {
@@ -17,8 +32,20 @@ impl Tally {
         *self.counts.entry(what.to_string()).or_default() += 1;
     }
 
+    pub fn add_length(&mut self, what: &'static str, length: usize) {
+        *self.lengths.entry((what, length)).or_default() += 1;
+    }
+
     pub fn count(&self, what: &str) -> usize {
         self.counts.get(what).copied().unwrap_or(0)
+    }
+
+    /// How often each length came, from 0 on.
+    fn by_length(&self, what: &'static str, longest: usize) -> Vec<usize> {
+        let count = |length| self.lengths.get(&(what, length)).copied();
+        (0..=longest)
+            .map(|length| count(length).unwrap_or(0))
+            .collect()
     }
 
     /// What should have come up and did not.
@@ -26,15 +53,16 @@ impl Tally {
         let answers = (0..=21).map(|answer| format!("answer {answer:2}"));
         let ways = WAYS.iter().map(|way| format!("unsound: {}", way.name));
         let harmless = HARMLESS.iter().map(|(name, _)| format!("sound: {name}"));
+        let lengths = LENGTHS.iter().flat_map(|&(what, longest)| {
+            let counts = self.by_length(what, longest);
+            let missing = (0..=longest).filter(move |&length| counts[length] == 0);
+            missing.map(move |length| format!("{what}: length {length}"))
+        });
         answers
             .chain(ways)
             .chain(harmless)
             .filter(|what| self.count(what) == 0)
-            .chain(
-                (0..REPLY_ROOM)
-                    .map(room)
-                    .filter(|room| self.count(room) == 0),
-            )
+            .chain(lengths)
             .collect()
     }
 
@@ -50,25 +78,20 @@ impl Tally {
     }
 }
 
-/// The name under which a short buffer is counted.
-pub fn room(length: usize) -> String {
-    format!("room {length}")
-}
-
 impl fmt::Display for Tally {
     fn fmt(&self, output: &mut fmt::Formatter) -> fmt::Result {
-        let (rooms, others): (Vec<_>, Vec<_>) = self
-            .counts
-            .iter()
-            .partition(|(what, _)| what.starts_with("room "));
-        for (what, count) in others {
+        for (what, count) in &self.counts {
             writeln!(output, "{what}: {count}")?;
         }
-        let least = rooms.iter().map(|(_, count)| **count).min().unwrap_or(0);
-        writeln!(
-            output,
-            "short buffers: {} lengths, each at least {least} times",
-            rooms.len()
-        )
+        for (what, longest) in LENGTHS {
+            let counts = self.by_length(what, longest);
+            let least = counts.iter().min().unwrap_or(&0);
+            let lengths = counts.len();
+            writeln!(
+                output,
+                "{what}: {lengths} lengths, each at least {least} times"
+            )?;
+        }
+        Ok(())
     }
 }

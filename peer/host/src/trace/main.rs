@@ -1,9 +1,10 @@
 //! A trace program over the static library: a script on standard input, its trace on standard output.
 //! Only the lines are read by the second program's reader; the module is the library's.
 
-use host::library::{saturn_frame, saturn_inputs, saturn_power_up, saturn_tick, SaturnAgent, RUN};
+use host::library::{saturn_frame, saturn_power_up, saturn_tick, SaturnAgent, RUN};
 use host::state;
 use peer::hex;
+use peer::module::registers::INPUTS;
 use peer::module::REPLY_ROOM;
 use peer::script::{parse, Line, Lines};
 use std::io::{self, BufWriter, Write};
@@ -47,13 +48,15 @@ impl Module {
 
     fn play(&mut self, line: &Line) -> u8 {
         self.sent = 0;
+        let held = self.agent.regs[INPUTS].to_vec();
         let agent: *mut SaturnAgent = &mut self.agent;
+        let tick = |inputs: &[u8]| unsafe { saturn_tick(agent, inputs.as_ptr(), inputs.len()) };
         match line {
             Line::Ticks(count) => (0..*count)
-                .map(|_| unsafe { saturn_tick(agent) })
+                .map(|_| tick(&held))
                 .find(|&answer| answer != 0)
                 .unwrap_or(0),
-            Line::Inputs(inputs) => unsafe { saturn_inputs(agent, inputs.as_ptr(), inputs.len()) },
+            Line::Inputs(inputs) => tick(inputs),
             Line::Frame { port, body } => unsafe {
                 let reply = self.reply.as_mut_ptr();
                 saturn_frame(

@@ -18,7 +18,8 @@ fn one(stage: &mut Stage) {
     stage.begin_cycle();
     write_outputs(stage);
     match stage.random.below(8) {
-        0 => stage.inputs(),
+        // Not if RUN would end by it.
+        0 => stage.inputs(stage.patience().min(1)),
         1 | 2 => {
             stage.read(8, 0x80);
         }

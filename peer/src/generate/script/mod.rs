@@ -22,7 +22,7 @@ use stage::Stage;
 type Scene = fn(&mut Stage);
 
 /// The scenes and how often each is in a deck.
-const SCENES: [(Scene, usize); 42] = [
+const SCENES: [(Scene, usize); 43] = [
     (cycles::steady, 4),
     (cycles::wrap, 2),
     (takeover::in_run, 5),
@@ -35,6 +35,7 @@ const SCENES: [(Scene, usize); 42] = [
     (settings::shorter, 1),
     (silences::sync, 3),
     (silences::outputs, 5),
+    (silences::inputs_alone, 3),
     (silences::pending_release, 3),
     (silences::after_refusal, 2),
     (silences::long, 2),

@@ -47,7 +47,7 @@ fn too_early(stage: &mut Stage) {
     let address = stage.address();
     stage.send(&speech::read(address, head, 1, 0x13));
     stage.send(&speech::write(address, head, OUT_REP, &[RELEASE]));
-    stage.inputs();
+    stage.inputs(1);
 }
 
 fn first_tid(stage: &mut Stage) {

@@ -110,6 +110,27 @@ fn wait_without_outputs(stage: &mut Stage) {
     }
 }
 
+/// Nothing but lines of inputs: RUN to the last but one, fallback at the last.
+pub fn inputs_alone(stage: &mut Stage) {
+    let (time, sync, output) = (
+        stage.random.pick(&[1, 2, 5, 10]),
+        stage.random.pick(&[1, 2, 3]),
+        stage.random.pick(&[1, 2, 9]),
+    );
+    set_limits(stage, time, sync, output);
+    stage.reach_run();
+    stage.inputs(stage.patience());
+    match stage.random.below(4) {
+        0 => stage.begin_cycle(),
+        1 => write_outputs(stage),
+        _ => {}
+    }
+    stage.inputs(2);
+    stage.ticks(1);
+    stage.heard_cycle(1);
+    stage.read(64, 0xC0);
+}
+
 /// A release that is pending ends with the sync limit, not before.
 pub fn pending_release(stage: &mut Stage) {
     if stage.agent().sync_limit() > 2000 || stage.random.one_in(2) {

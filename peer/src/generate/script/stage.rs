@@ -14,6 +14,9 @@ use std::collections::HashMap;
 /// How many bodies are kept, to be said again later.
 const MEMORY: usize = 200;
 
+/// Of a wait, how many of the first ticks and of the last are lines of inputs.
+const BY_INPUTS: [(u32, u32); 6] = [(0, 1), (0, 1), (0, 2), (1, 0), (1, 1), (3, 1)];
+
 pub struct Stage {
     pub random: Random,
     /// The index last used in each list that is gone through in turn.
@@ -63,8 +66,21 @@ impl Stage {
         played.map(|played| played.answer)
     }
 
-    /// In as many lines as need be; none for no tick.
+    /// In as many lines as need be; none for no tick. In half of the waits some are lines of inputs.
     pub fn ticks(&mut self, count: u32) {
+        let (first, last) = match self.random.one_in(2) {
+            true => self.random.pick(&BY_INPUTS),
+            false => (0, 0),
+        };
+        let first = first.min(count);
+        let last = last.min(count - first);
+        self.inputs(first);
+        self.held(count - first - last);
+        self.inputs(last);
+    }
+
+    /// Ticks with the inputs held.
+    fn held(&mut self, count: u32) {
         let mut left = count;
         while left > 0 {
             let now = left.min(TICKS_MAX);
@@ -73,10 +89,13 @@ impl Stage {
         }
     }
 
-    pub fn inputs(&mut self) {
-        let inputs = hex::encode(&sample::bytes(&mut self.random, 64));
-        let line = "I ".to_string() + &recase(&mut self.random, inputs);
-        self.line(line.into_bytes());
+    /// So many lines, each of them one tick.
+    pub fn inputs(&mut self, count: u32) {
+        for _ in 0..count {
+            let inputs = hex::encode(&sample::bytes(&mut self.random, 64));
+            let line = "I ".to_string() + &recase(&mut self.random, inputs);
+            self.line(line.into_bytes());
+        }
     }
 
     pub fn say_on(&mut self, port: u8, body: &[u8]) -> u8 {

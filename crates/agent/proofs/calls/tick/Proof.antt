@@ -1,30 +1,23 @@
--- `calls::tick` meets its contract. What the soundness test says makes the room that `tick::tick` asks for. Assumes nothing.
+-- `calls::tick` meets its contract. Assumes nothing.
 use mathlib.Core.Path.{sym, _∙_}
-use mir.Syntax.{w8}
-use mir.Val.{Fits}
-use lib.ListN.{getD}
 use borrow.Author.Needs.{needs}
-use Rattle.agent.proofs.CallLaws.{tick-sound, tick-unsound}
-use Rattle.agent_state.proofs.SoundFacts.{elapsed-room, idle-room, mode-shows}
+use Rattle.agent.proofs.CallLaws.{tick-refused, tick-answers}
 use Rattle.agent.proofs.calls.tick.Statement.{statement}
 use Rattle.agent.proofs.calls.tick.Tie as tie
 
-sound-requires : tie.Need-sound-requires
-sound-requires c κs = search needs
-
-tick-requires : tie.Need-tick-requires
-tick-requires c κs =
-    let a = c .before .before .args .a in
-    let s = sym (c .before .sound .ensures) ∙ c .if1 .taken in
-    let hm : Fits w8 (getD (a .regs) 0x1A 0) = search needs in
-    let ht : Fits w8 (getD (a .regs) 0x18 0) = search needs in
-    (elapsed-room a s, idle-room a s (hm .fits) (ht .fits), mode-shows a s)
+tick-answer-requires : tie.Need-tick-answer-requires
+tick-answer-requires c κs = search needs
 
 returns : tie.Need-returns
-returns c = tick-sound _ _ _ (c .before .before .sound .ensures) (c .before .if1 .taken) (c .tick .ensures)
+returns c = tick-refused _ _ _ (c .before .tick-answer .ensures) (c .if1 .taken)
+
+on-tick-requires : tie.Need-on-tick-requires
+on-tick-requires c κs = sym (c .before .tick-answer .ensures) ∙ c .if1 .left
 
 returns-2 : tie.Need-returns-2
-returns-2 c = tick-unsound _ _ (c .before .sound .ensures) (c .if1 .left)
+returns-2 c =
+    let p = c .before in
+    tick-answers _ _ _ _ (p .before .tick-answer .ensures) (p .if1 .left) (c .on-tick .ensures)
 
 pub tick-spec : {M : Type 1} → statement M
-tick-spec = tie.close (tie.spec sound-requires tick-requires returns returns-2)
+tick-spec = tie.close (tie.spec tick-answer-requires returns on-tick-requires returns-2)

@@ -19,8 +19,8 @@ loop-holds c =
     let e : c .args .n - 0 ≡ c .args .n = omega arith in
     ap (λ (m : ℕ). afterTicks m (c .args .a)) e
 
-tick-requires : tie.Need-tick-requires Inv-loop μ-loop
-tick-requires c κs = search needs
+tick-held-requires : tie.Need-tick-held-requires Inv-loop μ-loop
+tick-held-requires c κs = search needs
 
 add-i : tie.Need-add-i Inv-loop μ-loop
 add-i c = search needs
@@ -30,8 +30,8 @@ loop-less c = search needs
 
 loop-again : tie.Need-loop-again Inv-loop μ-loop
 loop-again c =
-    let l = c .before .before .before .loop in
-    ticks-turn _ _ (l .b) _ _ (search needs) (c .before .tick .ensures .1) (l .inv)
+    let l = c .before .before .loop in
+    ticks-turn _ _ (l .b) _ _ (search needs) (c .tick-held .ensures) (l .inv)
 
 returns : tie.Need-returns Inv-loop μ-loop
 returns c = ticks-end _ _ _ _ (search needs) (c .before .loop .inv)
@@ -39,4 +39,4 @@ returns c = ticks-end _ _ _ _ (search needs) (c .before .loop .inv)
 pub ticks-spec : {M : Type 1} → statement M
 ticks-spec =
     tie.close
-    (tie.spec Inv-loop μ-loop loop-holds tick-requires add-i loop-less loop-again returns)
+    (tie.spec Inv-loop μ-loop loop-holds tick-held-requires add-i loop-less loop-again returns)
