@@ -1,6 +1,7 @@
 // When a state is sound (document 01, "Who causes which number"), part by part. The tests of a part are joined without
 // branches, in the order of the definitions; the mode alone decides which of the last two parts is asked.
 ghost use mathlib.Core.Path.{_≡_};
+ghost use Rattle.rules.specs.Registers.{image};
 ghost use Rattle.rules.specs.Sound.{settingsSound, sourcesSound, countersSound, outputsZero, runSound, fallbackSound, sound};
 use crate::registers::CNF_CYC;
 use crate::registers::CNF_REP;
@@ -71,7 +72,7 @@ fn counters_sound(a: Agent) -> bool
 
 // The outputs are 0.
 fn outputs_zero(regs: &[u8; 256]) -> bool
-    ensures { λ r. ⌜ r ≡ outputsZero (now (regs .entry)) 64 ⌝ }
+    ensures { λ r. ⌜ r ≡ outputsZero (now (regs .entry)) image ⌝ }
 {
     let mut ok = true;
     let mut i: usize = 0;

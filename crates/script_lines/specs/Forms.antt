@@ -6,6 +6,7 @@ use Prim.Native.Nat.{ℕ, _-_}
 use lib.Dec.{eqb, ltb}
 use lib.ListN.{length, take, drop, getD}
 use Rattle.base.specs.Choice.{choose, within}
+use Rattle.rules.specs.Registers.{image}
 use Rattle.text.specs.Decimal.{decimalOf}
 use Rattle.text.specs.Hex.{hexPairs}
 use Rattle.text.specs.declared.decimal.Decimal.{Decimal}
@@ -40,7 +41,7 @@ frameOf port (some body) = frame port body
 -- `I`, a space and 128 hex digits
 abbrev pub inputsOf : Option (List ℕ) → Step
 inputsOf none = bad
-inputsOf (some xs) = choose (eqb (length xs) 64) (inputs xs) bad
+inputsOf (some xs) = choose (eqb (length xs) image) (inputs xs) bad
 
 -- by the first character and what follows the space
 unfoldable pub formOf : ℕ → List ℕ → Step
@@ -65,7 +66,7 @@ lineIn line len = choose (ltb (length line) len) bad (lineOf (take len line))
 abbrev pub stepIn : Form → List ℕ → Step
 stepIn (Ticks n) bytes = ticks n
 stepIn (Frame port n) bytes = frame port (take n bytes)
-stepIn Inputs bytes = inputs (take 64 bytes)
+stepIn Inputs bytes = inputs (take image bytes)
 stepIn Bad bytes = bad
 
 abbrev pub isBad : Step → Bool

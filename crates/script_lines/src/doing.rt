@@ -3,6 +3,7 @@ ghost use mathlib.Core.Path.{_≡_};
 ghost use Prim.Native.Nat.{_≤_};
 ghost use lib.ListN.{take, replicate};
 ghost use Rattle.rules.specs.Calls.{tickCall, frameCall};
+ghost use Rattle.rules.specs.Registers.{image};
 ghost use Rattle.agent_replies.specs.Handling.{told};
 ghost use Rattle.script_lines.specs.Forms.{stepIn};
 ghost use Rattle.script_lines.specs.Doing.{heldInputs, afterTicks, done};
@@ -47,7 +48,7 @@ fn ticks(a: Agent, n: u64) -> Agent
 
 // One tick, with the inputs of a line.
 fn inputs(a: Agent, bytes: &[u8]) -> Agent
-    ensures { λ r. ⌜ r ≡ tickCall a (take 64 (now (bytes .entry))) .agent ⌝ }
+    ensures { λ r. ⌜ r ≡ tickCall a (take image (now (bytes .entry))) .agent ⌝ }
 {
     let n = least(bytes.len(), IMAGE);
     let next = calls::tick(a, &bytes[..n]);
