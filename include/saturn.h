@@ -6,9 +6,9 @@
  * - After every call, ticks included, copy the output image, regs[SATURN_REG_OUTPUTS] and the 63 after it, to the terminals.
  *   In fallback it is all zero.
  * - When a call answers SATURN_UNSOUND (19), switch the terminals off and call saturn_power_up. The state was damaged from
- *   outside. Every further call would answer 19 and leave it as it is: a module that was in RUN would stay in RUN with its
- *   outputs on, since no time limit runs any more. After saturn_power_up the concentrators must assign and release the
- *   module again.
+ *   outside (or power-up was given another limit of requests than 16 or 64). Every further call would answer 19 and leave it
+ *   as it is: a module that was in RUN would stay in RUN with its outputs on, since no time limit runs any more. After
+ *   saturn_power_up the concentrators must assign and release the module again.
  *   19 does not replace a memory test: damage that leaves a state sound, say in the outputs in RUN, is not detected.
  *
  * What the caller must ensure:
@@ -22,7 +22,7 @@
  * - x86-64 with SSE2 and the System V calling convention. It uses SSE registers and the red zone: on bare metal enable SSE
  *   before the first call, and let no interrupt use the 128 bytes below the stack pointer.
  * - memcpy and memset only: no heap, no other library.
- * - 4,016 bytes of stack in the deepest call (measured, not proved; docs/PROVED.md, 'Figures').
+ * - 4,032 bytes of stack in the deepest call (measured, not proved; docs/PROVED.md, 'Figures').
  * It writes no static data. Agents may run in parallel, each with its own buffers. */
 #ifndef SATURN_H
 #define SATURN_H
@@ -31,17 +31,22 @@
 #include <stdint.h>
 
 /* the version of this header, and of the library that it was installed with */
-#define SATURN_VERSION_MAJOR 2
+#define SATURN_VERSION_MAJOR 3
 #define SATURN_VERSION_MINOR 0
 #define SATURN_VERSION_PATCH 0
-#define SATURN_VERSION "2.0.0"
+#define SATURN_VERSION "3.0.0"
 
 #ifdef __cplusplus
 extern "C" {
 #endif
 
-/* The state, field by field as in crates/rules/src/lib.rt. The last 2 of its 304 bytes are padding, and a call may change
- * them: compare two agents field by field, not with memcmp. */
+/* What is fixed at power-up: no call changes it. */
+typedef struct saturn_fixed {
+    uint8_t limit; /* how many requests are taken in a cycle: SATURN_LIMIT_LIGHTING or SATURN_LIMIT_DOORS */
+} saturn_fixed;
+
+/* The state, field by field as in crates/rules/src/lib.rt. The last of its 304 bytes is padding, and a call may change it:
+ * compare two agents field by field, not with memcmp. */
 typedef struct saturn_agent {
     uint8_t regs[256]; /* the registers */
     uint32_t known[8]; /* the recorded concentrators are the first `count`; power-up puts FFFFFFh in all */
@@ -54,6 +59,7 @@ typedef struct saturn_agent {
     uint8_t mode;      /* SATURN_RUN or SATURN_FALLBACK */
     uint8_t heard;     /* whether the cycle is heard (1) or not (0) */
     uint8_t count;     /* how many concentrators are recorded */
+    saturn_fixed fixed;
 } saturn_agent;
 
 /* a compiler that lays out the struct differently cannot use the library */
@@ -65,6 +71,9 @@ _Static_assert(sizeof(saturn_agent) == SATURN_AGENT_SIZE && _Alignof(saturn_agen
 #endif
 
 enum { SATURN_FALLBACK = 0, SATURN_RUN = 1 };
+
+/* the limit of requests, by what the module drives: lighting 16, doors 64 */
+enum { SATURN_LIMIT_LIGHTING = 16, SATURN_LIMIT_DOORS = 64 };
 
 /* Addresses in regs. A number of several bytes has its low byte at the low address. */
 enum {
@@ -119,7 +128,7 @@ enum {
     SATURN_CYCLE = 12,         /* CYC not the one due, or a request in a cycle whose sync was not heard */
     SATURN_REPEAT = 13,        /* a copy of a sync accepted before, or of a request taken before */
     SATURN_OUT_OF_ORDER = 14,  /* SEQ ahead of the one due */
-    SATURN_TOO_MANY = 15,      /* due, but 64 requests were taken in the cycle */
+    SATURN_TOO_MANY = 15,      /* due, but as many as the limit were taken in the cycle */
     SATURN_OUTSIDE_RULES = 16, /* write outside the rules */
     SATURN_NOT_ALLOWED = 17,   /* TID or SID not allowed */
     SATURN_EIGHT_OTHERS = 18,  /* eight others are recorded */
@@ -148,7 +157,7 @@ static inline const char *saturn_answer_text(uint8_t answer)
     case SATURN_CYCLE: return "CYC not the one due, or cycle not heard";
     case SATURN_REPEAT: return "copy of a sync accepted or a request taken before";
     case SATURN_OUT_OF_ORDER: return "SEQ ahead of the one due";
-    case SATURN_TOO_MANY: return "64 requests taken in the cycle";
+    case SATURN_TOO_MANY: return "limit of requests reached in the cycle";
     case SATURN_OUTSIDE_RULES: return "write outside the rules";
     case SATURN_NOT_ALLOWED: return "TID or SID not allowed";
     case SATURN_EIGHT_OTHERS: return "eight other concentrators recorded";
@@ -160,8 +169,10 @@ static inline const char *saturn_answer_text(uint8_t answer)
 }
 
 /* Power-up: whatever it held before, the agent is now in fallback, unheard, with nobody recorded, and its registers have
- * their power-up values, with this MAC, IID and VER. */
-void saturn_power_up(saturn_agent *agent, uint64_t mac, uint64_t iid, uint16_t ver);
+ * their power-up values, with this MAC, IID and VER. It takes up to `limit` requests in a cycle: SATURN_LIMIT_LIGHTING for a
+ * lighting module, SATURN_LIMIT_DOORS for doors. With any other limit the state is unsound: every call answers 19, and only
+ * saturn_power_up with one of these two helps. */
+void saturn_power_up(saturn_agent *agent, uint64_t mac, uint64_t iid, uint16_t ver, uint8_t limit);
 
 /* One millisecond, with the inputs: registers C0h to FFh become these 64 bytes, then e, s and, in RUN, q count on, and a limit
  * that is reached leads to fallback. Answers 0, 19 or 21 (not 64 inputs). With 19 and 21 the agent is left as it was: nothing is

@@ -28,7 +28,7 @@ static uint8_t reply[SATURN_REPLY_ROOM_LEAST];
 static const uint8_t given[SATURN_IMAGE] = {[0] = 0xA5, [SATURN_IMAGE - 1] = 0x5A}; /* the inputs */
 
 /* the bytes of the struct before its padding; there is none between the fields */
-enum { USED = offsetof(saturn_agent, count) + 1 };
+enum { USED = offsetof(saturn_agent, fixed) + sizeof(saturn_fixed) };
 
 static uint8_t frame(const uint8_t *body, size_t length)
 {
@@ -68,15 +68,21 @@ static void registers_at_power_up(void)
 int main(void)
 {
     memset(&m, 0xEE, sizeof m);
-    saturn_power_up(&m.agent, 0x0807060504030201, 2, 0x0403);
+    saturn_power_up(&m.agent, 0x0807060504030201, 2, 0x0403, SATURN_LIMIT_LIGHTING);
     for (unsigned i = 0; i < 64; i++)
         expect(m.before[i] == 0xEE && m.after[i] == 0xEE, "the library writes inside the struct alone");
     registers_at_power_up();
     for (unsigned i = 0; i < 8; i++)
         expect(m.agent.known[i] == 0xFFFFFF, "known");
     expect(m.agent.last == 0xFFFFFF, "last");
+    expect(m.agent.fixed.limit == SATURN_LIMIT_LIGHTING, "the limit of lighting");
+    expect(saturn_tick(&m.agent, given, sizeof given) == SATURN_ACCEPTED, "a tick with the limit of lighting");
+    unsound(offsetof(saturn_agent, taken), SATURN_LIMIT_LIGHTING + 1, "k above the limit of lighting");
 
-    saturn_power_up(&m.agent, 1, 2, 0);
+    saturn_power_up(&m.agent, 1, 2, 0, 32);
+    expect(m.agent.fixed.limit == 32 && saturn_tick(&m.agent, given, sizeof given) == SATURN_UNSOUND, "a limit that is neither");
+
+    saturn_power_up(&m.agent, 1, 2, 0, SATURN_LIMIT_DOORS);
     for (unsigned i = 0; i < 10; i++)
         expect(saturn_tick(&m.agent, given, sizeof given) == SATURN_ACCEPTED, "tick");
     expect(m.agent.elapsed == 10 && m.agent.silence == 10 && m.agent.cycle == 0 && m.agent.idle == 0, "elapsed and silence");
@@ -101,7 +107,8 @@ int main(void)
     unsound(offsetof(saturn_agent, heard), 7, "heard is where the library has it");
     unsound(offsetof(saturn_agent, count), 9, "count is where the library has it");
     unsound(offsetof(saturn_agent, elapsed), 255, "elapsed is where the library has it");
-    unsound(offsetof(saturn_agent, taken), 65, "taken is where the library has it");
+    unsound(offsetof(saturn_agent, taken), SATURN_LIMIT_DOORS + 1, "taken is where the library has it");
+    unsound(offsetof(saturn_agent, fixed.limit), 32, "the limit is where the library has it");
     unsound(offsetof(saturn_agent, idle) + 1, 0xFF, "idle is where the library has it");
     unsound(offsetof(saturn_agent, silence) + 1, 0xFF, "silence is where the library has it");
     unsound(offsetof(saturn_agent, last), 9, "last is where the library has it");

@@ -13,6 +13,7 @@
 #define MAC 1
 #define IID 2
 #define VER 0
+#define LIMIT SATURN_LIMIT_DOORS /* doors: 64 requests a cycle; a lighting module has SATURN_LIMIT_LIGHTING, 16 */
 
 static saturn_agent module;
 static const uint8_t given[SATURN_IMAGE] = {0xA5}; /* the inputs */
@@ -26,7 +27,7 @@ static void after_call(uint8_t answer)
     if (answer == SATURN_UNSOUND) {
         memset(terminals, 0, sizeof terminals);
         printf("%6lu ms  answer %u, %s: terminals off, power up\n", now_ms, answer, saturn_answer_text(answer));
-        saturn_power_up(&module, MAC, IID, VER);
+        saturn_power_up(&module, MAC, IID, VER, LIMIT);
     }
     memcpy(terminals, &module.regs[SATURN_REG_OUTPUTS], sizeof terminals);
 }
@@ -69,7 +70,7 @@ static void wait_ms(const char *event, unsigned count)
 /* from power-up to RUN with outputs on */
 static void opening(void)
 {
-    saturn_power_up(&module, MAC, IID, VER);
+    saturn_power_up(&module, MAC, IID, VER, LIMIT);
     show("power up", 0, 0);
     wait_ms("the first millisecond, with the inputs", 1);
     FRAME("TID 05h is assigned", 1, TID_ASSIGNMENT);

@@ -2,6 +2,7 @@
 ghost use mathlib.Core.Path.{_≡_};
 ghost use lib.ListN.{replicate};
 ghost use lib.Seq.{sets};
+ghost use Rattle.rules.specs.Fixed.{fixedBy};
 ghost use Rattle.rules.specs.PowerUp.{settings, powerRegs, powerUp};
 use agent_state::registers::AD_REF;
 use agent_state::registers::CNF_CYC;
@@ -24,6 +25,7 @@ use agent_state::state::UNHEARD;
 use agent_state::state::WITHHELD;
 use agent_state::tid::UNASSIGNED;
 use rules::Agent;
+use rules::Fixed;
 
 // All 256 registers start at zero.
 fn zero_registers() -> [u8; 256]
@@ -63,9 +65,9 @@ fn power_regs(mac: u64, iid: u64, ver: u16) -> [u8; 256]
     regs
 }
 
-// Fallback, unheard, counters 0, no source.
-pub fn power_up(mac: u64, iid: u64, ver: u16) -> Agent
-    ensures { λ r. ⌜ r ≡ powerUp mac iid ver ⌝ }
+// Fallback, unheard, counters 0, no source; with the limit of requests.
+pub fn power_up(mac: u64, iid: u64, ver: u16, limit: u8) -> Agent
+    ensures { λ r. ⌜ r ≡ powerUp mac iid ver (fixedBy limit) ⌝ }
 {
     let regs = power_regs(mac, iid, ver);
     Agent {
@@ -80,5 +82,6 @@ pub fn power_up(mac: u64, iid: u64, ver: u16) -> Agent
         mode: IN_FALLBACK,
         heard: UNHEARD,
         count: 0,
+        fixed: Fixed { limit },
     }
 }

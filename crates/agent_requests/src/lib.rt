@@ -17,7 +17,6 @@ use agent_state::answers::SOURCE;
 use agent_state::answers::TOO_MANY;
 use agent_state::sources::sid_of;
 use agent_state::state::IS_HEARD;
-use agent_state::state::MOST_TAKEN;
 use agent_state::state::NOBODY;
 use agent_writes::on_write;
 use rules::Agent;
@@ -53,8 +52,8 @@ fn on_ask(port: u8, a: Agent, src: u32, seq: u8, ask: Ask, xs: &[u8]) -> Deed
     }
 }
 
-// By the distance: below k is a repeat, above k is out of order; a request that is due raises k even if its write is
-// then refused.
+// By the distance: below k is a repeat, above k is out of order; due but k is the limit is 15; a request that is taken raises
+// k even if its write is then refused.
 fn on_distance(port: u8, a: Agent, src: u32, seq: u8, d: u8, ask: Ask, xs: &[u8]) -> Deed
     requires { ⌜ (src < 2 ^ 24) × (length (now xs) ≤ 272) ⌝ }
     ensures { λ r. ⌜ (r ≡ onDistance port a src seq d (askOf ask (now (xs .entry)))) × Fitting (r .reply) ⌝ }
@@ -65,7 +64,7 @@ fn on_distance(port: u8, a: Agent, src: u32, seq: u8, d: u8, ask: Ask, xs: &[u8]
     if a.taken < d {
         return does(OUT_OF_ORDER, sequence_marked(a));
     }
-    if MOST_TAKEN <= a.taken {
+    if a.fixed.limit <= a.taken {
         return does(TOO_MANY, a);
     }
     let mut next = a;

@@ -10,19 +10,20 @@ use lib.Dec.{eqb, leb, ltb}
 use lib.ListN.{getD}
 use Rattle.rules.specs.Assignments.{assignable}
 use Rattle.rules.specs.Fallback.{released, withheld}
+use Rattle.rules.specs.Fixed.{isLimit, limitOf}
 use Rattle.rules.specs.Registers.{typAt, tidAt, outRep, statut, outputsAt}
-use Rattle.rules.specs.Requests.{mostTaken}
 use Rattle.rules.specs.Sound.{settingsSound, sourcesSound, countersSound, outputsZero, runSound, fallbackSound, sound}
 use Rattle.rules.specs.Sources.{distinct, below24, isRecorded, sidOf}
 use Rattle.rules.specs.State.{inRun, inFallback, isHeard, unheard, nobody, reg, tOf, nOf, mOf}
 use Rattle.rules.specs.declared.Agent.{Agent}
+use Rattle.rules.proofs.SoundParts.{fits-is}
 
-pub settings-law : (a : Agent) (free : Bool) → free ≡ assignable (reg a tidAt)
+pub settings-law : (a : Agent) (free fit : Bool) → free ≡ assignable (reg a tidAt) → fit ≡ isLimit (limitOf a)
     → (not (eqb (tOf a) 0) && not (eqb (nOf a) 0) && not (eqb (mOf a) 0) && (eqb (reg a outRep) released || eqb (reg a outRep) withheld)
-    && (eqb (reg a tidAt) 0x8F || free) && eqb (reg a typAt) 0x82)
+    && (eqb (reg a tidAt) 0x8F || free) && eqb (reg a typAt) 0x82 && fit)
     ≡ settingsSound a
 unfolding settingsSound
-settings-law a free p = rw p
+settings-law a free fit p q = rw (p, q, fits-is (a .fixed))
 
 pub sources-law : (a : Agent) (fit : Bool) (sid : ℕ) → a .count ≤ 8 → fit ≡ (distinct (a .known) (a .count) && below24 (a .known) (a .count)) → sid ≡ sidOf a
     → (fit && Bool·beq (eqb (a .count) 0) (eqb sid nobody)) ≡ sourcesSound a
@@ -34,7 +35,7 @@ unfolding sourcesSound
 sources-many a h = rw (lt-leb (a .count) 8 h)
 
 pub counters-law : (a : Agent) (known : Bool) → known ≡ isRecorded a (a .last)
-    → (leb (a .taken) mostTaken && leb (a .elapsed) 254 && (known || (eqb (a .last) nobody && eqb (a .heard) unheard)) && (eqb (a .heard) isHeard || eqb (a .heard) unheard)) ≡ countersSound a
+    → (leb (a .taken) (limitOf a) && leb (a .elapsed) 254 && (known || (eqb (a .last) nobody && eqb (a .heard) unheard)) && (eqb (a .heard) isHeard || eqb (a .heard) unheard)) ≡ countersSound a
 unfolding countersSound
 counters-law a known p = rw p
 

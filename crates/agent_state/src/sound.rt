@@ -3,6 +3,7 @@
 ghost use mathlib.Core.Path.{_≡_};
 ghost use Rattle.rules.specs.Registers.{image};
 ghost use Rattle.rules.specs.Sound.{settingsSound, sourcesSound, countersSound, outputsZero, runSound, fallbackSound, sound};
+use crate::limit::is_limit;
 use crate::registers::CNF_CYC;
 use crate::registers::CNF_REP;
 use crate::registers::IMAGE;
@@ -19,7 +20,6 @@ use crate::sources::sid_of;
 use crate::state::IN_FALLBACK;
 use crate::state::IN_RUN;
 use crate::state::IS_HEARD;
-use crate::state::MOST_TAKEN;
 use crate::state::NOBODY;
 use crate::state::RELEASED;
 use crate::state::UNHEARD;
@@ -28,19 +28,21 @@ use crate::tid::UNASSIGNED;
 use crate::tid::assignable;
 use rules::Agent;
 
-// t, n, m are not 0, OUT_REP is 55h or AAh, TID is 8Fh or assignable, TYP is 82h.
+// t, n, m are not 0, OUT_REP is 55h or AAh, TID is 8Fh or assignable, TYP is 82h; the limit of requests is 16 or 64.
 fn settings_sound(a: Agent) -> bool
     ensures { λ r. ⌜ r ≡ settingsSound a ⌝ }
 {
     let release = a.regs[OUT_REP];
     let tid = a.regs[TID];
     let free = assignable(tid);
+    let fit = is_limit(a.fixed.limit);
     (a.regs[TCYC] != 0)
         & (a.regs[CNF_CYC] != 0)
         & (a.regs[CNF_REP] != 0)
         & ((release == RELEASED) | (release == WITHHELD))
         & ((tid == UNASSIGNED) | free)
         & (a.regs[TYP] == 0x82)
+        & fit
 }
 
 // At most 8 are recorded, all distinct, each below FFFFFFh; nobody is recorded exactly when the SID is FFFFFFh.
@@ -58,13 +60,13 @@ fn sources_sound(a: Agent) -> bool
     fit & ((a.count == 0) == (sid == NOBODY))
 }
 
-// k is at most 64, e at most 254; the last source is recorded, or there is none and the cycle is unheard; heard has one
+// k is at most the limit, e at most 254; the last source is recorded, or there is none and the cycle is unheard; heard has one
 // of its two values.
 fn counters_sound(a: Agent) -> bool
     ensures { λ r. ⌜ r ≡ countersSound a ⌝ }
 {
     let known = is_recorded(a, a.last);
-    (a.taken <= MOST_TAKEN)
+    (a.taken <= a.fixed.limit)
         & (a.elapsed <= 254)
         & (known | ((a.last == NOBODY) & (a.heard == UNHEARD)))
         & ((a.heard == IS_HEARD) | (a.heard == UNHEARD))

@@ -1,5 +1,6 @@
--- P8: ticks from power-up, whatever MAC, IID and VER. A law over the number of ticks, so that none has to be computed.
+-- P8: ticks from power-up, whatever MAC, IID, VER and limit. A law over the number of ticks, so that none has to be computed.
 -- Assumes nothing.
+use mathlib.Core.Bool.{true}
 use mathlib.Core.Path.{_≡_, refl, ap, _∙_}
 use Prim.Native.Nat.{ℕ, zero, suc, _+_, _%_}
 use native.Mathlib.Omega.{arith}
@@ -8,6 +9,7 @@ use Rattle.base.proofs.Choosing.{choose-true}
 use Rattle.base.proofs.Stored.{stored-before}
 use Rattle.rules.specs.Answers.{accepted, unsound}
 use Rattle.rules.specs.Calls.{tick, tickCall, act}
+use Rattle.rules.specs.Fixed.{fits}
 use Rattle.rules.specs.Good.{Good}
 use Rattle.rules.specs.Inputs.{withInputs}
 use Rattle.rules.specs.PowerUp.{powerRegs, powerUp}
@@ -16,6 +18,7 @@ use Rattle.rules.specs.Replies.{Outcome, outcome}
 use Rattle.rules.specs.State.{tOf}
 use Rattle.rules.specs.Tick.{ticked}
 use Rattle.rules.specs.declared.Agent.{Agent}
+use Rattle.rules.specs.declared.Fixed.{Fixed}
 use Rattle.rules.proofs.CycleClock.{tick-t, tick-early, tick-end}
 use Rattle.rules.proofs.GoodNext.{good-next}
 use Rattle.rules.proofs.GoodStart.{good-start}
@@ -53,19 +56,20 @@ cycle-ends (suc n) a g e =
     let c1 : b .cycle ≡ a .cycle = ap (λ (x : Agent). x .cycle) s ∙ w .1 ∙ stored-c a in
     cycle-ends n b (good-next a (tick inputs) g (bytes-replicate image 0x00 (omega arith))) (omega arith) ∙ ap (λ (c : ℕ). (c + 1) % 256) c1
 
-start-t : (mac iid ver : ℕ) → tOf (powerUp mac iid ver) ≡ 0xFF
-unfolding powerUp powerRegs lowBytes
-start-t mac iid ver = refl
+module _ (mac iid ver : ℕ) (fixed : Fixed) where
+  start-t : tOf (powerUp mac iid ver fixed) ≡ 0xFF
+  unfolding powerUp powerRegs lowBytes
+  start-t = refl
 
-start-e : (mac iid ver : ℕ) → powerUp mac iid ver .elapsed ≡ 0
-unfolding powerUp
-start-e mac iid ver = refl
+  start-e : powerUp mac iid ver fixed .elapsed ≡ 0
+  unfolding powerUp
+  start-e = refl
 
-start-c : (mac iid ver : ℕ) → powerUp mac iid ver .cycle ≡ 0
-unfolding powerUp
-start-c mac iid ver = refl
+  start-c : powerUp mac iid ver fixed .cycle ≡ 0
+  unfolding powerUp
+  start-c = refl
 
-pub first-cycle : (mac iid ver : ℕ) → after (silent 255) (powerUp mac iid ver) .cycle ≡ 0x01
-first-cycle mac iid ver =
-    cycle-ends 254 (powerUp mac iid ver) (good-start mac iid ver) (omega (arith, start-t mac iid ver, start-e mac iid ver))
-    ∙ ap (λ (c : ℕ). (c + 1) % 256) (start-c mac iid ver)
+  pub first-cycle : fits fixed ≡ true → after (silent 255) (powerUp mac iid ver fixed) .cycle ≡ 0x01
+  first-cycle f =
+      cycle-ends 254 (powerUp mac iid ver fixed) (good-start mac iid ver fixed f) (omega (arith, start-t, start-e))
+      ∙ ap (λ (c : ℕ). (c + 1) % 256) start-c

@@ -8,14 +8,19 @@ use Rattle.frame_kinds.specs.Kinds.{appOf}
 use Rattle.frame_kinds.specs.declared.kinds.Frame.{Frame}
 use Rattle.frame_kinds.specs.declared.kinds.Frame.the-variants.{Sync, SafeRead, SafeWrite, SidAssignment}
 use Rattle.rules.specs.Calls.{leastRoom, Call, tick, frame, act}
+use Rattle.rules.specs.Fixed.{doorsLimit, fixedBy}
 use Rattle.rules.specs.PowerUp.{powerUp}
 use Rattle.rules.specs.Registers.{image}
 use Rattle.rules.specs.Requests.{firstSeq}
 use Rattle.rules.specs.declared.Agent.{Agent}
 
--- the module: MAC 1, IID 2 and VER 0; it gets SID 000005h, and its TID stays 8Fh
+-- the module with a limit of requests: MAC 1, IID 2 and VER 0; it gets SID 000005h, and its TID stays 8Fh
+abbrev pub moduleOf : ℕ → Agent
+moduleOf limit = powerUp 0x01 0x02 0x00 (fixedBy limit)
+
+-- with the limit of document 01's cases
 abbrev pub module1 : Agent
-module1 = powerUp 0x01 0x02 0x00
+module1 = moduleOf doorsLimit
 
 abbrev pub ownSid : ℕ
 ownSid = 0x000005

@@ -2,7 +2,7 @@
 use mathlib.Core.Bool.{true}
 use mathlib.Core.List.{List, [], _∷_, _++_}
 use mathlib.Core.Path.{_≡_}
-use Prim.Native.Nat.{ℕ, zero, suc, _≤_}
+use Prim.Native.Nat.{ℕ, zero, suc, _-_, _≤_}
 use lib.ListN.{length, take, drop}
 use Rattle.crc.specs.Crc.{crcOf}
 use Rattle.crc.specs.declared.Poly.the-variants.{Fcs}
@@ -11,21 +11,26 @@ use Rattle.stuffing.specs.Stuffing.{stuff}
 use Rattle.frame_writing.specs.Writing.{frameLine}
 use Rattle.frame_kinds.specs.declared.kinds.Frame.the-variants.{SafeResponse}
 use Rattle.rules.specs.Calls.{Call, act}
+use Rattle.rules.specs.Fixed.{doorsLimit, isLimit, fits}
 use Rattle.rules.specs.PowerUp.{powerUp}
 use Rattle.rules.specs.Registers.{typAt, outRep, tcyc}
 use Rattle.rules.specs.Requests.{firstSeq}
 use Rattle.rules.specs.Sound.{sound}
 use Rattle.rules.specs.State.{inRun, inFallback, isHeard, tOf, nOf, mOf}
 use Rattle.rules.specs.declared.Agent.{Agent}
-use Rattle.bench.specs.BusCalls.{module1, ownSid, concentrator, assigns, syncs, asksFor, writesTo, after, silent}
+use Rattle.rules.specs.declared.Fixed.{Fixed}
+use Rattle.bench.specs.BusCalls.{moduleOf, ownSid, concentrator, assigns, syncs, asksFor, writesTo, after, silent}
 
 -- the start of P9 to P14, by calls from power-up: the SID is assigned, t is set to 10 and the release ordered in a cycle
 -- with CYC b, and the next sync, with CYC c, leads to RUN; n 2 and m 5 are power-up's
 abbrev pub prelude : ℕ → ℕ → List Call
 prelude b c = assigns ∷ syncs b ∷ writesTo b 0 tcyc (0x0A ∷ []) ∷ writesTo b 1 outRep (0x55 ∷ []) ∷ syncs c ∷ []
 
+abbrev pub afterPreludeOf : (limit b c : ℕ) → Agent
+afterPreludeOf limit b c = after (prelude b c) (moduleOf limit)
+
 abbrev pub afterPrelude : ℕ → ℕ → Agent
-afterPrelude b c = after (prelude b c) module1
+afterPrelude b c = afterPreludeOf doorsLimit b c
 
 -- in RUN with t 10, n 2 and m 5, in a heard cycle with CYC c, e ms of it gone
 pub record InRun (c e : ℕ) (a : Agent) : Type 0 where
@@ -65,7 +70,7 @@ Says′ p6 = (a : ℕ) (xs : List ℕ) → 7 ≤ length (a ∷ (xs ++ (0x7D ∷ 
 -- FCS rule over ASCII 123456789 is 29B1h
 Says′ p7 = crcOf Fcs (0x31 ∷ 0x32 ∷ 0x33 ∷ 0x34 ∷ 0x35 ∷ 0x36 ∷ 0x37 ∷ 0x38 ∷ 0x39 ∷ []) ≡ 0x29B1
 -- power-up and 255 ticks: c = 01h
-Says′ p8 = (mac iid ver : ℕ) → after (silent 255) (powerUp mac iid ver) .cycle ≡ 0x01
+Says′ p8 = (mac iid ver : ℕ) (fixed : Fixed) → fits fixed ≡ true → after (silent 255) (powerUp mac iid ver fixed) .cycle ≡ 0x01
 -- t 10, n 2, m 5: RUN after 19 silent ticks, fallback at the 20th
 Says′ p9 =
     InRun 0x05 0 (afterPrelude 0x04 0x05)
@@ -93,3 +98,10 @@ Says′ p13 =
 Says′ p14 =
     (act (after (asked 63 0) (afterPrelude 0x04 0x05)) (asksFor 0x05 63 1 typAt) .answer ≡ 0)
     × (act (after (asked 64 0) (afterPrelude 0x04 0x05)) (asksFor 0x05 64 1 typAt) .answer ≡ 15)
+
+-- P14 with either limit of requests: the request with that number is taken, the next is 15
+abbrev pub AtLimit : Type 0
+AtLimit =
+    (limit : ℕ) → isLimit limit ≡ true
+    → (act (after (asked (limit - 1) 0) (afterPreludeOf limit 0x04 0x05)) (asksFor 0x05 (limit - 1) 1 typAt) .answer ≡ 0)
+    × (act (after (asked limit 0) (afterPreludeOf limit 0x04 0x05)) (asksFor 0x05 limit 1 typAt) .answer ≡ 15)

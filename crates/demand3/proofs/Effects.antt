@@ -14,7 +14,6 @@ use Rattle.rules.specs.Calls.{Call, frame}
 use Rattle.rules.specs.Fallback.{released, withheld}
 use Rattle.rules.specs.Registers.{outputsAt}
 use Rattle.rules.specs.Replies.{Outcome}
-use Rattle.rules.specs.Requests.{mostTaken}
 use Rattle.rules.specs.State.{inRun, inFallback, isHeard, unheard, nobody}
 use Rattle.rules.specs.Tick.{silenceEnd}
 use Rattle.rules.specs.declared.Agent.{Agent}
@@ -112,7 +111,7 @@ pub record Due (v : View) (r : Request) : Type 0 where
   pub heard : v .cycle .heard ≡ isHeard
   pub cyc : r .cyc ≡ v .cycle .c
   pub seq : r .seq ≡ (firstSeq (v .cycle .c) + v .cycle .k) % 256
-  pub few : v .cycle .k < mostTaken
+  pub few : v .cycle .k < 256
 
 -- a tick stays below both limits
 pub record BelowLimits (v : View) : Type 0 where

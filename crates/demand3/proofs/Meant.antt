@@ -25,4 +25,4 @@ along [] a h m = m
 along (x ∷ xs) a h m = along xs (act a x .agent) (h ▸ entry a x (act a x)) (one-more h a x m)
 
 pub as-meant : {h : History} {a : Agent} → Reached h a → Everywhere Meant h
-as-meant r = subst (Everywhere Meant) (r .is-history) (along (r .calls) (powerUp (r .mac) (r .iid) (r .ver)) powerOn at-power-up)
+as-meant r = subst (Everywhere Meant) (r .is-history) (along (r .calls) (powerUp (r .mac) (r .iid) (r .ver) (r .fixed)) powerOn at-power-up)

@@ -5,7 +5,6 @@ use mathlib.Core.Option.{Option, some}
 use mathlib.Core.Path.{_≡_, refl, ap}
 use Prim.Native.Nat.{ℕ, _+_, _%_, _≤_, _<_}
 use native.Mathlib.Omega.{arith}
-use Rattle.rules.specs.Requests.{mostTaken}
 use Rattle.rules.specs.State.{isHeard, unheard}
 use Rattle.demand3.specs.Numbers.{firstSeq}
 use Rattle.demand3.specs.Words.{SyncOf, dueAfter, Differs, AllDiffer}
@@ -50,7 +49,7 @@ when-unheard c k last Y tk d =
     record { of-sync = λ p. absurd (omega arith); due = λ p. absurd (omega arith); earlier = λ p. absurd (omega arith); differ = d }
 
 -- one number more is taken, the one due
-module _ (heard c k last seq : ℕ) (Y : Option SyncOf) (tk : List ℕ) (h : heard ≡ isHeard) (few : k < mostTaken) (is : seq ≡ (firstSeq c + k) % 256) (n : Numbering heard c k last Y tk) where
+module _ (heard c k last seq : ℕ) (Y : Option SyncOf) (tk : List ℕ) (h : heard ≡ isHeard) (few : k < 256) (is : seq ≡ (firstSeq c + k) % 256) (n : Numbering heard c k last Y tk) where
   pub differ-more : AllDiffer (seq ∷ tk)
   differ-more = (rw is (new (firstSeq c) k tk (n .earlier h) (omega arith)), n .differ)
 

@@ -5,18 +5,23 @@ use Prim.Native.Nat.{ℕ}
 use Rattle.rules.specs.Calls.{Call, Answers, act}
 use Rattle.rules.specs.Good.{BytesCall}
 use Rattle.rules.specs.PowerUp.{powerUp}
+use Rattle.rules.specs.Replies.{outcome}
 use Rattle.rules.specs.declared.Agent.{Agent}
+use Rattle.rules.specs.declared.Fixed.{Fixed}
+use Rattle.rules.proofs.FixedStays.{unfit-start}
 use Rattle.demand3.specs.Claim.{BytesCalls, Holds}
 use Rattle.demand3.specs.History.{History, powerOn, _▸_, entryOf, entry, history}
-use Rattle.demand3.specs.Reached.{agentAfter, Reached, Continues}
+use Rattle.demand3.specs.Reached.{agentAfter, Reached, Begins, Continues}
+use Rattle.demand3.specs.Numbers.{unsound}
 use Rattle.demand3.specs.Sharper.{Sharper}
 use Rattle.demand3.proofs.Proved.{demand3, sharpened}
+use Rattle.demand3.proofs.SameNumbers.{same-limit}
 
 pub reached-holds : {h : History} {a : Agent} → Reached h a → Holds h
-reached-holds r = subst Holds (r .is-history) (demand3 (r .mac) (r .iid) (r .ver) (r .calls) (r .bytes))
+reached-holds r = subst Holds (r .is-history) (demand3 (r .mac) (r .iid) (r .ver) (r .fixed) (r .fit) (r .calls) (r .bytes))
 
 pub reached-sharper : {h : History} {a : Agent} → Reached h a → Sharper h
-reached-sharper r = subst Sharper (r .is-history) (sharpened (r .mac) (r .iid) (r .ver) (r .calls) (r .bytes))
+reached-sharper r = subst Sharper (r .is-history) (sharpened (r .mac) (r .iid) (r .ver) (r .fixed) (r .fit) (r .calls) (r .bytes))
 
 -- one call more
 pub after-more : (a : Agent) (xs : List Call) (x : Call) → agentAfter a (xs ++ (x ∷ [])) ≡ act (agentAfter a xs) x .agent
@@ -32,16 +37,18 @@ bytes-more : (xs : List Call) (x : Call) → BytesCalls xs → BytesCall x → B
 bytes-more [] x b one = (one, tt)
 bytes-more (y ∷ xs) x b one = (b .0, bytes-more xs x (b .1) one)
 
--- power-up begins a history
-pub begins : (mac iid ver : ℕ) (a : Agent) → a ≡ powerUp mac iid ver → Reached powerOn a
-begins mac iid ver a e =
-    record { mac = mac; iid = iid; ver = ver; calls = []; bytes = tt; is-history = refl; is-agent = sym e }
+-- power-up begins a history, if the limit of requests is one of the two
+pub begins : (mac iid ver : ℕ) (fixed : Fixed) (a : Agent) → a ≡ powerUp mac iid ver fixed → Begins fixed a
+begins mac iid ver fixed a e = record {
+  reached = λ f. record { mac = mac; iid = iid; ver = ver; fixed = fixed; fit = f; calls = []; bytes = tt; is-history = refl; is-agent = sym e };
+  unfit = λ f call. subst (λ (b : Agent). act b call ≡ outcome unsound b) (sym e) (unfit-start mac iid ver fixed (sym (same-limit fixed) ∙ f) call);
+}
 
 -- a call continues it
 module _ (h : History) (a : Agent) (r : Reached h a) (call : Call) (is-bytes : BytesCall call) (answer : ℕ) (b : Agent)
     (does : Answers (act a call) answer b) where
   abbrev fresh : Agent
-  fresh = powerUp (r .mac) (r .iid) (r .ver)
+  fresh = powerUp (r .mac) (r .iid) (r .ver) (r .fixed)
 
   abbrev end : Agent
   end = agentAfter fresh (r .calls)
@@ -62,6 +69,8 @@ module _ (h : History) (a : Agent) (r : Reached h a) (call : Call) (is-bytes : B
     mac = r .mac;
     iid = r .iid;
     ver = r .ver;
+    fixed = r .fixed;
+    fit = r .fit;
     calls = r .calls ++ (call ∷ []);
     bytes = bytes-more (r .calls) call (r .bytes) is-bytes;
     is-history = same-history;

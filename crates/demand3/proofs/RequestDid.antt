@@ -30,21 +30,26 @@ due-number : (seq cyc k : ℕ) → seq < 256 → distance seq cyc ≡ k → seq 
 unfolding distance
 due-number seq cyc k b e = omega (arith, same-first-seq cyc)
 
+-- a distance is a byte, so no number of a cycle comes round again, whatever the limit
+distance-byte : (seq cyc : ℕ) → distance seq cyc < 256
+unfolding distance
+distance-byte seq cyc = omega arith
+
 module _ {a : Agent} {dest src cyc seq : ℕ} (p : Passes a dest src cyc seq) where
   pub is-due : (ask : Ask) → seq < 256 → Due (viewOf a) (asking dest src cyc seq ask)
   unfolding sidOf
   is-due ask small = record {
-    last = p .last;
-    somebody = λ e. p .somebody (p .last ∙ e);
-    sid = p .sid;
-    heard = p .heard;
-    cyc = p .same;
-    seq = subst (λ (c : ℕ). seq ≡ (firstSeq c + a .taken) % 256) (p .same) (due-number seq cyc (a .taken) small (p .due));
-    few = p .few;
+    last = p .is-due .last;
+    somebody = λ e. p .is-due .somebody (p .is-due .last ∙ e);
+    sid = p .is-due .sid;
+    heard = p .is-due .heard;
+    cyc = p .is-due .same;
+    seq = subst (λ (c : ℕ). seq ≡ (firstSeq c + a .taken) % 256) (p .is-due .same) (due-number seq cyc (a .taken) small (p .is-due .due));
+    few = omega (arith, p .is-due .due, distance-byte seq cyc);
   }
 
   pub at-due : (P : Agent → Type 0) → P (oneMore a) → P (takenBy seq cyc a)
-  at-due P x = subst (λ (k : ℕ). P (withTaken (k + 1) a)) (sym (p .due)) x
+  at-due P x = subst (λ (k : ℕ). P (withTaken (k + 1) a)) (sym (p .is-due .due)) x
 
 -- ---- a write
 

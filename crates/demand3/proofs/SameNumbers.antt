@@ -1,5 +1,5 @@
--- The claim's numbers joined to the rules' own: a release order, an output write and the first SEQ mean the same in
--- both. Assumes nothing.
+-- The claim's numbers joined to the rules' own: a release order, an output write, the first SEQ and the limit of requests
+-- mean the same in both. Assumes nothing.
 use mathlib.Core.Bool.{Bool, true, false, _&&_}
 use mathlib.Core.List.{List}
 use mathlib.Core.Path.{_≡_, refl, sym, ap, _∙_, subst}
@@ -12,14 +12,17 @@ use Rattle.base.specs.Choice.{within}
 use Rattle.base.proofs.Choosing.{never, choose-true, by-test, and-left, and-right, and-true}
 use Rattle.rules.specs.Answers as Answers
 use Rattle.rules.specs.Fallback.{released}
+use Rattle.rules.specs.Fixed as Limit
 use Rattle.rules.specs.Registers as Registers
 use Rattle.rules.specs.Requests as Requests
 use Rattle.rules.specs.State as State
 use Rattle.rules.specs.Writes.{spanAt, spanEnd, spanOf}
+use Rattle.rules.specs.declared.Fixed.{Fixed}
 use Rattle.rules.specs.declared.Span.{Span}
 use Rattle.rules.specs.declared.Span.the-variants.{Release, CycleTime, Limits, Counters, Config, Outputs, Outside}
+use Rattle.rules.proofs.SoundParts.{fits-is}
 use Rattle.rules.proofs.Spans.{InSpan, in-span}
-use Rattle.demand3.specs.Numbers.{inRun, inFallback, tcyc, cnfRep, cnfCyc, outputsAt, lastOutput, image, accepted, outsideRules, unsound, isAccepted, firstSeq, writesRelease, writesWithinOutputs}
+use Rattle.demand3.specs.Numbers.{inRun, inFallback, tcyc, cnfRep, cnfCyc, outputsAt, lastOutput, image, isLimit, accepted, outsideRules, unsound, isAccepted, firstSeq, writesRelease, writesWithinOutputs}
 
 pub same-modes : (inRun ≡ State.inRun) × (inFallback ≡ State.inFallback)
 same-modes = (refl, refl)
@@ -35,6 +38,9 @@ same-accepted n = refl
 
 pub same-first-seq : (cyc : ℕ) → firstSeq cyc ≡ Requests.firstSeq cyc
 same-first-seq cyc = refl
+
+pub same-limit : (fixed : Fixed) → isLimit (fixed .limit) ≡ Limit.fits fixed
+same-limit fixed = sym (fits-is fixed)
 
 -- ---- the span of such a write
 

@@ -11,9 +11,10 @@ use Rattle.frame_kinds.specs.declared.kinds.Frame.the-variants.{SafeWrite}
 use Rattle.rules.specs.Calls.{Call, frame}
 use Rattle.rules.specs.Good.{BytesCall}
 use Rattle.rules.specs.PowerUp.{powerUp}
+use Rattle.rules.specs.declared.Fixed.{Fixed}
 use Rattle.demand3.specs.Events.{aSync}
 use Rattle.demand3.specs.History.{History, powerOn, _▸_, Entry, Seen, history}
-use Rattle.demand3.specs.Numbers.{inRun, inFallback, outputsAt, image, isAccepted, unsound}
+use Rattle.demand3.specs.Numbers.{inRun, inFallback, outputsAt, image, isLimit, isAccepted, unsound}
 use Rattle.demand3.specs.Words.{event, lastSync, ownSid, taken, numberDue, AllDiffer, LeavesRun, EntersRun, TickAtSyncLimit, TickAtCommandLimit, Released}
 
 -- in fallback, outputs zero
@@ -97,6 +98,7 @@ abbrev pub BytesCalls : List Call → Type 0
 BytesCalls [] = Unit {0}
 BytesCalls (x ∷ xs) = BytesCall x × BytesCalls xs
 
--- for every MAC, IID and VER and every list of calls from power-up
+-- for every MAC, IID and VER, a limit of requests that is 16 or 64, and every list of calls from power-up
 abbrev pub Demand3 : Type 0
-Demand3 = (mac iid ver : ℕ) (calls : List Call) → BytesCalls calls → Holds (history (powerUp mac iid ver) powerOn calls)
+Demand3 = (mac iid ver : ℕ) (fixed : Fixed) → isLimit (fixed .limit) ≡ true
+    → (calls : List Call) → BytesCalls calls → Holds (history (powerUp mac iid ver fixed) powerOn calls)

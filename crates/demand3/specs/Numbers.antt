@@ -1,6 +1,6 @@
 -- The numbers in the claim, written out from document 01 and not imported from the rules that the claim is about.
 -- proofs/SameNumbers joins them to the rules' own. Assumes nothing.
-use mathlib.Core.Bool.{Bool, _&&_}
+use mathlib.Core.Bool.{Bool, _&&_, _||_}
 use mathlib.Core.List.{List}
 use Prim.Native.Nat.{ℕ, _+_, _-_, _%_}
 use lib.Dec.{eqb, leb}
@@ -32,6 +32,10 @@ lastOutput = 0xBF
 -- how many outputs there are
 abbrev pub image : ℕ
 image = 64
+
+-- the limit of requests a cycle: 16 or 64
+abbrev pub isLimit : ℕ → Bool
+isLimit n = eqb n 16 || eqb n 64
 
 -- the answers that the claim names: accepted; a write outside the rules; an unsound state
 abbrev pub accepted : ℕ

@@ -1,13 +1,17 @@
 -- Demand 3 as a clause of a contract: what one call adds to every history from power-up that ended in the agent passed
 -- to it. Power-up begins a history, each call continues it, and demand 3 holds at each step. Assumes nothing.
+use mathlib.Core.Bool.{true, false}
 use mathlib.Core.List.{List, [], _∷_}
 use mathlib.Core.Path.{_≡_}
 use Prim.Native.Nat.{ℕ}
 use Rattle.rules.specs.Calls.{Call, act}
 use Rattle.rules.specs.PowerUp.{powerUp}
+use Rattle.rules.specs.Replies.{outcome}
 use Rattle.rules.specs.declared.Agent.{Agent}
+use Rattle.rules.specs.declared.Fixed.{Fixed}
 use Rattle.demand3.specs.Claim.{BytesCalls, Holds}
 use Rattle.demand3.specs.History.{History, powerOn, _▸_, entryOf, history}
+use Rattle.demand3.specs.Numbers.{isLimit, unsound}
 use Rattle.demand3.specs.Sharper.{Sharper}
 
 -- the agent after a list of calls
@@ -21,10 +25,18 @@ pub record Reached (h : History) (a : Agent) : Type 0 where
   pub mac : ℕ
   pub iid : ℕ
   pub ver : ℕ
+  pub fixed : Fixed
+  pub fit : isLimit (fixed .limit) ≡ true
   pub calls : List Call
   pub bytes : BytesCalls calls
-  pub is-history : history (powerUp mac iid ver) powerOn calls ≡ h
-  pub is-agent : agentAfter (powerUp mac iid ver) calls ≡ a
+  pub is-history : history (powerUp mac iid ver fixed) powerOn calls ≡ h
+  pub is-agent : agentAfter (powerUp mac iid ver fixed) calls ≡ a
+
+-- what power-up leaves: with a limit of requests that is 16 or 64 it begins a history; with any other, every call answers
+-- 19 and leaves the agent as it is
+pub record Begins (fixed : Fixed) (a : Agent) : Type 0 where
+  pub reached : isLimit (fixed .limit) ≡ true → Reached powerOn a
+  pub unfit : isLimit (fixed .limit) ≡ false → (call : Call) → act a call ≡ outcome unsound a
 
 -- the history with one more call, made on the agent a, with this answer, leaving the agent b: it is a history from
 -- power-up too, and demand 3 and the sharper statements hold of it

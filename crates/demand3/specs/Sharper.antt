@@ -1,6 +1,7 @@
 -- What demand 3 means for the concentrators on the ring: a request is taken only if it is fresh; one from a
 -- concentrator that lost the ring, or a copy of one already taken, changes neither an output nor the mode.
 -- Assumes nothing.
+use mathlib.Core.Bool.{true}
 use mathlib.Core.List.{List, _∷_}
 use mathlib.Core.Option.{some}
 use mathlib.Core.Path.{_≡_}
@@ -10,10 +11,11 @@ use Rattle.frame_kinds.specs.declared.kinds.Frame.the-variants.{SafeRead, SafeW
 use Rattle.frame_reading.specs.declared.Reading.the-variants.{Valid}
 use Rattle.rules.specs.Calls.{Call, frame}
 use Rattle.rules.specs.PowerUp.{powerUp}
+use Rattle.rules.specs.declared.Fixed.{Fixed}
 use Rattle.demand3.specs.Claim.{Everywhere, BytesCalls}
 use Rattle.demand3.specs.Events.{Request, aSync, aRequest, aRefusedWrite}
 use Rattle.demand3.specs.History.{History, powerOn, _▸_, Entry, history}
-use Rattle.demand3.specs.Numbers.{image}
+use Rattle.demand3.specs.Numbers.{image, isLimit}
 use Rattle.demand3.specs.Words.{event, lastSync, ownSid, taken, numberDue}
 
 -- ---- every request that is taken is fresh
@@ -76,6 +78,7 @@ pub record Sharper (h : History) : Type 0 where
   -- a request with a SEQ already taken since the last accepted sync, as a copy on either port has, changes neither
   pub copy : Everywhere (λ past e. (src seq : ℕ) → Brings (e .call) src seq → Among seq (taken past) → Unchanged e) h
 
--- for every MAC, IID and VER and every list of calls from power-up
+-- for every MAC, IID and VER, a limit of requests that is 16 or 64, and every list of calls from power-up
 abbrev pub Sharpened : Type 0
-Sharpened = (mac iid ver : ℕ) (calls : List Call) → BytesCalls calls → Sharper (history (powerUp mac iid ver) powerOn calls)
+Sharpened = (mac iid ver : ℕ) (fixed : Fixed) → isLimit (fixed .limit) ≡ true
+    → (calls : List Call) → BytesCalls calls → Sharper (history (powerUp mac iid ver fixed) powerOn calls)

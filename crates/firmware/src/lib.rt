@@ -4,18 +4,18 @@
 ghost use mathlib.Core.Path.{_≡_};
 ghost use lib.ListN.{length};
 ghost use Rattle.rules.specs.Calls.{tick, frame, tickCall, frameCall, Answers, AnswersFrame};
+ghost use Rattle.rules.specs.Fixed.{fixedBy};
 ghost use Rattle.rules.specs.PowerUp.{powerUp};
-ghost use Rattle.demand3.specs.History.{powerOn};
-ghost use Rattle.demand3.specs.Reached.{Reached, Continues};
+ghost use Rattle.demand3.specs.Reached.{Begins, Continues};
 use agent_state::answers::ACCEPTED;
 use rules::Agent;
 
-// Power-up with MAC, IID and VER.
+// Power-up with MAC, IID, VER and the limit of requests a cycle.
 #[no_mangle]
-pub extern "C" fn saturn_power_up(agent: &mut Agent, mac: u64, iid: u64, ver: u16)
-    ensures { λ _. ⌜ (now (agent .exit) ≡ powerUp mac iid ver) × Reached powerOn (now (agent .exit)) ⌝ }
+pub extern "C" fn saturn_power_up(agent: &mut Agent, mac: u64, iid: u64, ver: u16, limit: u8)
+    ensures { λ _. ⌜ (now (agent .exit) ≡ powerUp mac iid ver (fixedBy limit)) × Begins (fixedBy limit) (now (agent .exit)) ⌝ }
 {
-    *agent = agent::power_up::power_up(mac, iid, ver);
+    *agent = agent::power_up::power_up(mac, iid, ver, limit);
 }
 
 // One millisecond, with the 64 inputs. A call that is refused leaves the agent untouched.

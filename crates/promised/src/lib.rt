@@ -4,18 +4,18 @@
 ghost use mathlib.Core.Path.{_≡_};
 ghost use lib.ListN.{length};
 ghost use Rattle.rules.specs.Calls.{tick as Calls·tick, frame as Calls·frame, tickCall, frameCall, Answers, AnswersFrame};
+ghost use Rattle.rules.specs.Fixed.{fixedBy};
 ghost use Rattle.rules.specs.PowerUp.{powerUp};
-ghost use Rattle.demand3.specs.History.{powerOn};
-ghost use Rattle.demand3.specs.Reached.{Reached, Continues};
+ghost use Rattle.demand3.specs.Reached.{Begins, Continues};
 use agent::calls::Told;
 use agent_replies::sending::Handled;
 use rules::Agent;
 
-// Power-up: the empty history ends in this agent.
-pub fn power_up(mac: u64, iid: u64, ver: u16) -> Agent
-    ensures { λ r. ⌜ (r ≡ powerUp mac iid ver) × Reached powerOn r ⌝ }
+// Power-up: if the limit is one of the two, the empty history ends in this agent.
+pub fn power_up(mac: u64, iid: u64, ver: u16, limit: u8) -> Agent
+    ensures { λ r. ⌜ (r ≡ powerUp mac iid ver (fixedBy limit)) × Begins (fixedBy limit) r ⌝ }
 {
-    agent::power_up::power_up(mac, iid, ver)
+    agent::power_up::power_up(mac, iid, ver, limit)
 }
 
 pub fn tick(a: Agent, xs: &[u8]) -> Told

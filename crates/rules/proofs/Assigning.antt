@@ -51,6 +51,7 @@ good-tid a tid g ok =
         };
         sources = p .sources;
         named = named-kept r q (a .count) (sid-same r q (o 0x14 tt) (o 0x15 tt) (o 0x16 tt)) (p .named);
+        fixed = p .fixed;
         k-most = p .k-most;
         e-most = p .e-most;
         last-is = p .last-is;
@@ -88,6 +89,7 @@ module _ (a : Agent) (src : ℕ) (g : GoodTo 254 a) (few : a .count < 8) (someon
           settings = p .settings;
           sources = sources-more;
           named = record { no-sid = λ e. absurd (omega (arith, e)); no-source = λ e. absurd (some (p .named .no-source e)) };
+          fixed = p .fixed;
           k-most = p .k-most;
           e-most = p .e-most;
           last-is = last-more;
@@ -113,6 +115,7 @@ module _ (a : Agent) (src : ℕ) (g : GoodTo 254 a) (few : a .count < 8) (someon
           settings = settings-kept r q record { typ = o typAt tt; tid = o tidAt tt; limits = l } (p .settings);
           sources = sources-more;
           named = record { no-sid = λ h. absurd (omega (arith, h)); no-source = λ h. absurd (other (sym e ∙ h)) };
+          fixed = p .fixed;
           k-most = p .k-most;
           e-most = p .e-most;
           last-is = last-more;

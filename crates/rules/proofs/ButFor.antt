@@ -73,6 +73,7 @@ only-registers c a r h l = record {
   last-source = refl;
   recorded = refl;
   recorded-count = refl;
+  fixed = refl;
 }
 
 module _ (a : Agent) where
@@ -125,6 +126,7 @@ module _ (a : Agent) where
     last-source = refl;
     recorded = refl;
     recorded-count = refl;
+    fixed = refl;
   }
   but-for oneTaken = record {
     registers = λ i e. refl;
@@ -139,4 +141,5 @@ module _ (a : Agent) where
     last-source = refl;
     recorded = refl;
     recorded-count = refl;
+    fixed = refl;
   }

@@ -24,13 +24,14 @@ use Rattle.frame_reading.proofs.Receiving.{appIn}
 use Rattle.rules.specs.Answers.{accepted, bodyLength, stuffing, unstuffedLength, fcs, reserved, elsewhere, typ, form, crc, source, addressee, cycle, repeat, outOfOrder, tooMany, outsideRules, notAllowed, eightOthers, unsound, replyRoom, hostInput}
 use Rattle.rules.specs.Assignments.{assignable, onTid, onFirstSid, onLaterSid, onSid}
 use Rattle.rules.specs.Calls.{leastRoom, tickCall, frameCall, Call, tick, frame, act}
+use Rattle.rules.specs.Fixed.{limitOf}
 use Rattle.rules.specs.FrameCall.{onKind, onRead, isOwn, onApp, onVerdict, onBody, onFrame}
 use Rattle.rules.specs.Inputs.{withInputs}
 use Rattle.rules.specs.Registers.{macAt, iidAt, tidAt, sidAt, statut, adRef, szRef, image, lowBytes, lowNumber}
 use Rattle.rules.specs.Marks.{sequenceMarked}
 use Rattle.rules.specs.Refusals.{sequenceFall, changed, rowOf, readOf, isSync, readsSync}
 use Rattle.rules.specs.Replies.{Outcome, outcome, does, syncReply, readReply, acknowledges, muted, replyData, sendReply, sent, sendFrame}
-use Rattle.rules.specs.Requests.{mostTaken, distance, Ask, reads, writes, onAsk, onDistance, onRequest}
+use Rattle.rules.specs.Requests.{distance, Ask, reads, writes, onAsk, onDistance, onRequest}
 use Rattle.rules.specs.Sound.{sound}
 use Rattle.rules.specs.Sources.{isRecorded, recorded, sidOf}
 use Rattle.rules.specs.State.{isHeard, nobody, running, reg, store, storeAll, withTaken}
@@ -60,15 +61,19 @@ pub record Hears (a : Agent) (src cyc : ℕ) : Type 0 where
   pub fresh : isRepeat a src cyc ≡ false
   pub fits : (running a && not (cycleFits a cyc)) ≡ false
 
--- a request that is taken
-pub record Passes (a : Agent) (dest src cyc seq : ℕ) : Type 0 where
+-- a request with the number due: from the source and with the cycle of the last accepted sync, to the own SID
+pub record IsDue (a : Agent) (dest src cyc seq : ℕ) : Type 0 where
   pub somebody : src ≡ nobody → ⊥
   pub last : src ≡ a .last
   pub sid : dest ≡ sidOf a
   pub heard : a .heard ≡ isHeard
   pub same : cyc ≡ a .cycle
   pub due : distance seq cyc ≡ a .taken
-  pub few : a .taken < mostTaken
+
+-- a request that is taken
+pub record Passes (a : Agent) (dest src cyc seq : ℕ) : Type 0 where
+  pub is-due : IsDue a dest src cyc seq
+  pub few : a .taken < limitOf a
 
 -- a frame with its data that is answered 0, and the agent it leaves before a reply is sent
 pub data Accepts (a : Agent) : Frame → List ℕ → Agent → Type 0 where
@@ -130,17 +135,19 @@ module _ (port : ℕ) (a : Agent) where
         (λ q. unless (not (eqb (a .heard) isHeard && eqb cyc (a .cycle))) (other-cycle other)
         (λ r. unless (ltb d (a .taken)) (refuses repeat refl)
         (λ up. unless (ltb (a .taken) d) (refuses outOfOrder refl)
-        (λ down. unless (leb mostTaken (a .taken)) (refuses tooMany refl)
+        (λ down. unless (leb (limitOf a) (a .taken)) (refuses tooMany refl)
         (λ few. let e : d ≡ a .taken = omega (arith, ltb-false d (a .taken) up, ltb-false (a .taken) d down) in
         let both = not-false (eqb (a .heard) isHeard && eqb cyc (a .cycle)) r in
         serve record {
-          somebody = eqb-false src nobody (or-left-false (eqb src nobody) _ p);
-          last = eqb-true src (a .last) (not-false _ (or-right-false (eqb src nobody) _ p));
-          sid = eqb-true dest (sidOf a) (not-false _ q);
-          heard = eqb-true (a .heard) isHeard (and-left _ _ both);
-          same = eqb-true cyc (a .cycle) (and-right (eqb (a .heard) isHeard) _ both);
-          due = e;
-          few = leb-false mostTaken (a .taken) few;
+          is-due = record {
+            somebody = eqb-false src nobody (or-left-false (eqb src nobody) _ p);
+            last = eqb-true src (a .last) (not-false _ (or-right-false (eqb src nobody) _ p));
+            sid = eqb-true dest (sidOf a) (not-false _ q);
+            heard = eqb-true (a .heard) isHeard (and-left _ _ both);
+            same = eqb-true cyc (a .cycle) (and-right (eqb (a .heard) isHeard) _ both);
+            due = e;
+          };
+          few = leb-false (limitOf a) (a .taken) few;
         }))))))
 
   sync-case : (src cyc : ℕ) (xs : List ℕ) → KindCase a (Sync src cyc) xs (onSync port a src cyc)

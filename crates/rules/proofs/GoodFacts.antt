@@ -9,9 +9,9 @@ use lib.Bits.{bitAnd}
 use lib.ListN.{getD}
 use Rattle.rules.specs.Assignments.{assignable}
 use Rattle.rules.specs.Fallback.{released, withheld}
+use Rattle.rules.specs.Fixed.{limitOf}
 use Rattle.rules.specs.Good.{Good}
 use Rattle.rules.specs.Registers.{typAt, tidAt, outRep, statut, outputsAt, image}
-use Rattle.rules.specs.Requests.{mostTaken}
 use Rattle.rules.specs.Sources.{isRecorded, sidOf}
 use Rattle.rules.specs.State.{inRun, inFallback, isHeard, unheard, nobody, reg, tOf, nOf, mOf}
 use Rattle.rules.specs.declared.Agent.{Agent}
@@ -56,7 +56,7 @@ module _ (a : Agent) (g : Good a) where
   pub good-e : a .elapsed ≤ 254
   good-e = good-sound .e-most
 
-  pub good-k : a .taken ≤ mostTaken
+  pub good-k : a .taken ≤ limitOf a
   good-k = good-sound .k-most
 
   pub good-heard : (a .heard ≡ isHeard) ⊎ (a .heard ≡ unheard)

@@ -56,7 +56,7 @@ module _ {a : Agent} (g : GoodTo 254 a) where
   good-taken : {dest src cyc seq : ℕ} → Passes a dest src cyc seq → GoodTo 254 (takenBy seq cyc a)
   good-taken h =
       let p = g .parts in
-      good-counting 254 254 a g (omega arith) (p .e-most) (p .last-is) (p .heard-is) (p .by-mode)
+      good-counting 254 254 a g (omega (arith, h .is-due .due, h .few)) (p .e-most) (p .last-is) (p .heard-is) (p .by-mode)
 
   good-accepted : {f : Frame} {xs : List ℕ} {b : Agent} → FittingFrame f → Bytes xs → Accepts a f xs b → GoodTo 254 b
   unfolding isRecorded

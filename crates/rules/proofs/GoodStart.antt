@@ -1,4 +1,5 @@
--- The agent at power-up is good, whatever MAC, IID and VER. Assumes nothing.
+-- The agent at power-up is good, whatever MAC, IID and VER, if what is fixed at power-up fits. Assumes nothing.
+use mathlib.Core.Bool.{true}
 use mathlib.Core.Path.{_≡_, refl, ap, _∙_}
 use mathlib.Core.List.{List, [], _∷_}
 use mathlib.Core.Logic.{inl, inr}
@@ -9,14 +10,21 @@ use lib.ListN.{getD, replicate, length-replicate, getD-replicate}
 use lib.Seq.{sets}
 use Rattle.base.proofs.Bytes.{bytes-single, bytes-replicate, bytes-written}
 use Rattle.base.proofs.Stored.{stored-before, stored-behind, stored-in}
+use Rattle.rules.specs.Fixed.{isLimit, fixedBy, fits}
 use Rattle.rules.specs.Good.{Good}
 use Rattle.rules.specs.PowerUp.{settings, powerRegs, powerUp}
 use Rattle.rules.specs.Registers.{macAt, iidAt, typAt, verAt, tidAt, sidAt, outRep, tcyc, statut, cnfRep, cnfCyc, outputsAt, image, lowBytes, lowNumber}
 use Rattle.rules.specs.State.{nobody}
+use Rattle.rules.specs.declared.Fixed.{Fixed}
 use Rattle.rules.proofs.GoodNext.{parts-good}
 use Rattle.rules.proofs.Kept.{ByteRegisters, registers-stored, GoodTo}
 use Rattle.rules.proofs.LowBytes.{length-low, bytes-low}
-use Rattle.rules.proofs.Parts.{Settings}
+use Rattle.rules.proofs.Parts.{Settings, FixedParts}
+use Rattle.rules.proofs.SoundParts.{fits-is, fixed-of}
+
+-- both limits of requests fit
+pub limit-fits : (limit : ℕ) → isLimit limit ≡ true → fits (fixedBy limit) ≡ true
+limit-fits limit e = fits-is (fixedBy limit) ∙ e
 
 module _ (mac iid ver : ℕ) where
   -- the registers after each store, up to the last
@@ -102,13 +110,14 @@ module _ (mac iid ver : ℕ) where
     typ-is = start-typ;
   }
 
-  start-good : GoodTo 254 (powerUp mac iid ver)
+  start-good : (fixed : Fixed) → FixedParts fixed → GoodTo 254 (powerUp mac iid ver fixed)
   unfolding powerUp r
-  start-good = record {
+  start-good fixed f = record {
     parts = record {
       settings = start-settings;
       sources = record { at-most-8 = omega arith; all-differ = λ i j p q. absurd (omega arith); all-below = λ i h. absurd (omega arith) };
       named = record { no-sid = λ e. start-sid; no-source = λ e. refl };
+      fixed = f;
       k-most = omega arith;
       e-most = omega arith;
       last-is = inr (refl, refl);
@@ -127,5 +136,5 @@ module _ (mac iid ver : ℕ) where
     places = length-replicate {A = ℕ} 8 nobody;
   }
 
-  pub good-start : Good (powerUp mac iid ver)
-  good-start = parts-good (powerUp mac iid ver) start-good
+  pub good-start : (fixed : Fixed) → fits fixed ≡ true → Good (powerUp mac iid ver fixed)
+  good-start fixed e = parts-good (powerUp mac iid ver fixed) (start-good fixed (fixed-of fixed e))

@@ -11,8 +11,8 @@ use Rattle.base.specs.Bytes.{Bytes}
 use Rattle.base.proofs.Outside.{Outside, same-before, same-behind, outside-sets}
 use Rattle.base.proofs.Stored.{stored-in, stored-bytes}
 use Rattle.rules.specs.Fallback.{released}
+use Rattle.rules.specs.Fixed.{limitOf}
 use Rattle.rules.specs.Registers.{typAt, tidAt, sidAt, outRep, tcyc, statut, cnfRep, cnfCyc, outputsAt, image, lowNumber}
-use Rattle.rules.specs.Requests.{mostTaken}
 use Rattle.rules.specs.State.{isHeard, unheard, nobody, withRegs}
 use Rattle.rules.specs.declared.Agent.{Agent}
 use Rattle.rules.proofs.Parts.{modeBits, Settings, Named, LastIs, Running, ModeParts, PartsTo}
@@ -129,6 +129,7 @@ parts-kept most a q f p = record {
   settings = settings-kept (a .regs) q (f .same) (p .settings);
   sources = p .sources;
   named = named-kept (a .regs) q (a .count) (f .sid) (p .named);
+  fixed = p .fixed;
   k-most = p .k-most;
   e-most = p .e-most;
   last-is = p .last-is;
@@ -156,9 +157,9 @@ good-kept most a q f z g = record { parts = parts-kept most a q f (g .parts); re
 -- ---- other counters, flags and last source
 abbrev counting : Agent → ℕ → ℕ → ℕ → ℕ → ℕ → ℕ → ℕ → ℕ → Agent
 counting a last s q c e k mode heard =
-    record { regs = a .regs; known = a .known; last = last; silence = s; idle = q; cycle = c; elapsed = e; taken = k; mode = mode; heard = heard; count = a .count }
+    record { regs = a .regs; known = a .known; last = last; silence = s; idle = q; cycle = c; elapsed = e; taken = k; mode = mode; heard = heard; count = a .count; fixed = a .fixed }
 
-pub good-counting : (most later : ℕ) (a : Agent) {last s q c e k mode heard : ℕ} → GoodTo most a → k ≤ mostTaken → e ≤ later
+pub good-counting : (most later : ℕ) (a : Agent) {last s q c e k mode heard : ℕ} → GoodTo most a → k ≤ limitOf a → e ≤ later
     → LastIs (a .known) (a .count) last heard → (heard ≡ isHeard) ⊎ (heard ≡ unheard) → ModeParts (a .regs) s q last mode
     → GoodTo later (counting a last s q c e k mode heard)
 good-counting most later a g hk he hl hh hm = record {
@@ -166,6 +167,7 @@ good-counting most later a g hk he hl hh hm = record {
     settings = g .parts .settings;
     sources = g .parts .sources;
     named = g .parts .named;
+    fixed = g .parts .fixed;
     k-most = hk;
     e-most = he;
     last-is = hl;

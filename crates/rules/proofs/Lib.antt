@@ -29,4 +29,6 @@ pub mod Assigning
 pub mod GoodNext
 pub mod GoodStart
 pub mod NeverUnsound
+pub mod FixedStays
+pub mod AtLimit
 pub mod GoodFacts

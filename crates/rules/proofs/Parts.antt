@@ -9,11 +9,12 @@ use lib.Bits.{bitAnd}
 use lib.ListN.{getD}
 use Rattle.rules.specs.Assignments.{assignable}
 use Rattle.rules.specs.Fallback.{released, withheld}
+use Rattle.rules.specs.Fixed.{lightingLimit, doorsLimit, limitOf}
 use Rattle.rules.specs.Registers.{typAt, tidAt, sidAt, outRep, tcyc, statut, cnfRep, cnfCyc, outputsAt, image, lowNumber}
-use Rattle.rules.specs.Requests.{mostTaken}
 use Rattle.rules.specs.Sources.{holds}
 use Rattle.rules.specs.State.{inRun, inFallback, isHeard, unheard, nobody}
 use Rattle.rules.specs.declared.Agent.{Agent}
+use Rattle.rules.specs.declared.Fixed.{Fixed}
 
 -- bits 7 and 6 of STATUT
 abbrev pub modeBits : List ℕ → ℕ
@@ -59,12 +60,17 @@ pub record ModeParts (r : List ℕ) (s q last mode : ℕ) : Type 0 where
   pub in-run : mode ≡ inRun → Running r s q last
   pub in-fallback : mode ≡ inFallback → Resting r q
 
+-- what is fixed at power-up
+pub record FixedParts (f : Fixed) : Type 0 where
+  pub limit-is : (f .limit ≡ lightingLimit) ⊎ (f .limit ≡ doorsLimit)
+
 -- the parts, with e at most `most`
 pub record PartsTo (most : ℕ) (a : Agent) : Type 0 where
   pub settings : Settings (a .regs)
   pub sources : Sources (a .known) (a .count)
   pub named : Named (a .regs) (a .count)
-  pub k-most : a .taken ≤ mostTaken
+  pub fixed : FixedParts (a .fixed)
+  pub k-most : a .taken ≤ limitOf a
   pub e-most : a .elapsed ≤ most
   pub last-is : LastIs (a .known) (a .count) (a .last) (a .heard)
   pub heard-is : (a .heard ≡ isHeard) ⊎ (a .heard ≡ unheard)

@@ -48,7 +48,7 @@ module _ {a : Agent} where
   kind-refused (fell {cyc = cyc} e) z =
       let run : running a ≡ true = and-left (running a) (not (cycleFits a cyc)) e in
       record { number = refl; silent = refl; state = sym (ap (λ (b : Bool). changed (rowOf b cycle) a) run) }
-  kind-refused (outside p) z = record { number = refl; silent = refl; state = ap (λ (k : ℕ). withTaken (k + 1) a) (p .due) }
+  kind-refused (outside p) z = record { number = refl; silent = refl; state = ap (λ (k : ℕ). withTaken (k + 1) a) (p .is-due .due) }
   kind-refused (accepts c) z = absurd (z refl)
 
   frame-refused : {body : List ℕ} {d : Deed} → FrameCase a body d → (d .answer ≡ accepted → ⊥) → RefusedDeed a (readsSync (readOf body)) d

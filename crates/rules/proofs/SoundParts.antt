@@ -14,13 +14,14 @@ use Rattle.base.proofs.Joined.{four-parts, four-true, six-parts, six-true}
 use Rattle.base.proofs.Choosing.{and-parts}
 use Rattle.rules.specs.Assignments.{assignable}
 use Rattle.rules.specs.Fallback.{released, withheld}
+use Rattle.rules.specs.Fixed.{lightingLimit, doorsLimit, isLimit, limitOf, fits}
 use Rattle.rules.specs.Registers.{typAt, tidAt, sidAt, outRep, tcyc, cnfRep, cnfCyc, outputsAt, image, lowNumber}
-use Rattle.rules.specs.Requests.{mostTaken}
 use Rattle.rules.specs.Sound.{settingsSound, sourcesSound, countersSound, outputsZero, runSound, fallbackSound, sound}
 use Rattle.rules.specs.Sources.{holds, distinct, below24, isRecorded, sidOf}
 use Rattle.rules.specs.State.{inRun, inFallback, isHeard, unheard, nobody}
 use Rattle.rules.specs.declared.Agent.{Agent}
-use Rattle.rules.proofs.Parts.{modeBits, Settings, Sources, Named, LastIs, Running, Resting, ModeParts, SoundParts}
+use Rattle.rules.specs.declared.Fixed.{Fixed}
+use Rattle.rules.proofs.Parts.{modeBits, Settings, Sources, Named, LastIs, Running, Resting, ModeParts, FixedParts, SoundParts}
 use Rattle.rules.proofs.Recorded.{last-or, distinct-each, each-distinct, below-each, each-below}
 
 -- ---- the outputs
@@ -40,6 +41,21 @@ each-output r (suc n) f =
     and-true (outputsZero r n) (eqb (getD r (outputsAt + n) 0) 0)
     (each-output r n (λ i p. f i (omega arith)))
     (eq-eqb (getD r (outputsAt + n) 0) 0 (f n (omega arith)))
+
+-- ---- what is fixed
+pub fits-is : (f : Fixed) → fits f ≡ isLimit (f .limit)
+unfolding fits
+fits-is f = refl
+
+pub fixed-of : (f : Fixed) → fits f ≡ true → FixedParts f
+fixed-of f e = record {
+  limit-is = either-of (eqb (f .limit) lightingLimit) (eqb (f .limit) doorsLimit) (eqb-true (f .limit) lightingLimit) (eqb-true (f .limit) doorsLimit) (sym (fits-is f) ∙ e);
+}
+
+pub of-fixed : (f : Fixed) → FixedParts f → fits f ≡ true
+of-fixed f p =
+    fits-is f
+    ∙ of-either (eqb (f .limit) lightingLimit) (eqb (f .limit) doorsLimit) (eq-eqb (f .limit) lightingLimit) (eq-eqb (f .limit) doorsLimit) (p .limit-is)
 
 module _ (a : Agent) where
   -- ---- what is read
@@ -74,27 +90,34 @@ module _ (a : Agent) where
   abbrev tidTest : Bool
   tidTest = eqb tid 0x8F || assignable tid
 
-  settings-of : settingsSound a ≡ true → Settings r
+  abbrev tests : Bool
+  tests = not (eqb t 0) && not (eqb n 0) && not (eqb m 0) && repTest && tidTest && eqb typ 0x82
+
+  settings-of : settingsSound a ≡ true → Settings r × FixedParts (a .fixed)
   unfolding settingsSound
   settings-of e =
-      let w = six-parts (not (eqb t 0)) (not (eqb n 0)) (not (eqb m 0)) repTest tidTest (eqb typ 0x82) e in
-      record {
+      let both = and-parts tests (fits (a .fixed)) e in
+      let w = six-parts (not (eqb t 0)) (not (eqb n 0)) (not (eqb m 0)) repTest tidTest (eqb typ 0x82) (both .0) in
+      let s : Settings r = record {
         t-set = not-zero t (w .0);
         n-set = not-zero n (w .1);
         m-set = not-zero m (w .2);
         rep-is = either-of (eqb rep released) (eqb rep withheld) (eqb-true rep released) (eqb-true rep withheld) (w .3);
         tid-is = either-of (eqb tid 0x8F) (assignable tid) (eqb-true tid 0x8F) (λ h. h) (w .4);
         typ-is = eqb-true typ 0x82 (w .5);
-      }
+      } in
+      (s, fixed-of (a .fixed) (both .1))
 
-  of-settings : Settings r → settingsSound a ≡ true
+  of-settings : Settings r → FixedParts (a .fixed) → settingsSound a ≡ true
   unfolding settingsSound
-  of-settings s =
-      six-true (not (eqb t 0)) (not (eqb n 0)) (not (eqb m 0)) repTest tidTest (eqb typ 0x82)
+  of-settings s f =
+      and-true tests (fits (a .fixed))
+      (six-true (not (eqb t 0)) (not (eqb n 0)) (not (eqb m 0)) repTest tidTest (eqb typ 0x82)
       (zero-not t (s .t-set)) (zero-not n (s .n-set)) (zero-not m (s .m-set))
       (of-either (eqb rep released) (eqb rep withheld) (eq-eqb rep released) (eq-eqb rep withheld) (s .rep-is))
       (of-either (eqb tid 0x8F) (assignable tid) (eq-eqb tid 0x8F) (λ h. h) (s .tid-is))
-      (eq-eqb typ 0x82 (s .typ-is))
+      (eq-eqb typ 0x82 (s .typ-is)))
+      (of-fixed (a .fixed) f)
 
   -- ---- the recorded, and the SID
   abbrev nameTest : Bool
@@ -166,17 +189,17 @@ module _ (a : Agent) where
   of-heard : Heard → heardTest ≡ true
   of-heard = of-either (eqb (a .heard) isHeard) (eqb (a .heard) unheard) (eq-eqb (a .heard) isHeard) (eq-eqb (a .heard) unheard)
 
-  counters-of : countersSound a ≡ true → (a .taken ≤ mostTaken) × (a .elapsed ≤ 254) × Last × Heard
+  counters-of : countersSound a ≡ true → (a .taken ≤ limitOf a) × (a .elapsed ≤ 254) × Last × Heard
   unfolding countersSound isRecorded
   counters-of e =
-      let w = four-parts (leb (a .taken) mostTaken) (leb (a .elapsed) 254) lastTest heardTest e in
-      (leb-true (a .taken) mostTaken (w .0), leb-true (a .elapsed) 254 (w .1), last-of (w .2), heard-of (w .3))
+      let w = four-parts (leb (a .taken) (limitOf a)) (leb (a .elapsed) 254) lastTest heardTest e in
+      (leb-true (a .taken) (limitOf a) (w .0), leb-true (a .elapsed) 254 (w .1), last-of (w .2), heard-of (w .3))
 
   of-counters : SoundParts a → countersSound a ≡ true
   unfolding countersSound isRecorded
   of-counters p =
-      four-true (leb (a .taken) mostTaken) (leb (a .elapsed) 254) lastTest heardTest
-      (le-leb (a .taken) mostTaken (p .k-most)) (le-leb (a .elapsed) 254 (p .e-most)) (of-last (p .last-is)) (of-heard (p .heard-is))
+      four-true (leb (a .taken) (limitOf a)) (leb (a .elapsed) 254) lastTest heardTest
+      (le-leb (a .taken) (limitOf a) (p .k-most)) (le-leb (a .elapsed) 254 (p .e-most)) (of-last (p .last-is)) (of-heard (p .heard-is))
 
   -- ---- the two modes
   abbrev Runs : Type 0
@@ -245,12 +268,14 @@ module _ (a : Agent) where
   unfolding sound
   parts e =
       let w = four-parts (settingsSound a) (sourcesSound a) (countersSound a) (runSound a || fallbackSound a) e in
+      let both = settings-of (w .0) in
       let s = sources-of (w .1) in
       let c = counters-of (w .2) in
       record {
-        settings = settings-of (w .0);
+        settings = both .0;
         sources = s .0;
         named = s .1;
+        fixed = both .1;
         k-most = c .0;
         e-most = c .1;
         last-is = c .2;
@@ -262,4 +287,4 @@ module _ (a : Agent) where
   unfolding sound
   sound-of p =
       four-true (settingsSound a) (sourcesSound a) (countersSound a) (runSound a || fallbackSound a)
-      (of-settings (p .settings)) (of-sources (p .sources) (p .named)) (of-counters p) (of-mode (p .by-mode))
+      (of-settings (p .settings) (p .fixed)) (of-sources (p .sources) (p .named)) (of-counters p) (of-mode (p .by-mode))

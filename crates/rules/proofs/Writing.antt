@@ -44,6 +44,7 @@ rewritten a g q i z low s m =
         settings = s;
         sources = p .sources;
         named = named-kept (a .regs) q (a .count) (sid-before (a .regs) q low) (p .named);
+        fixed = p .fixed;
         k-most = p .k-most;
         e-most = p .e-most;
         last-is = p .last-is;

@@ -1,6 +1,7 @@
 pub mod Answers
 pub mod Registers
 pub mod State
+pub mod Fixed
 pub mod PowerUp
 pub mod Fallback
 pub mod Tick

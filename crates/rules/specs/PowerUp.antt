@@ -6,6 +6,7 @@ use lib.Seq.{sets}
 use Rattle.rules.specs.Registers.{macAt, iidAt, typAt, verAt, tidAt, lowBytes}
 use Rattle.rules.specs.State.{inFallback, unheard, nobody}
 use Rattle.rules.specs.declared.Agent.{Agent}
+use Rattle.rules.specs.declared.Fixed.{Fixed}
 
 -- TID, SID (3), OUT_REP, TCYC, STATUT, CNF_REP, CNF_CYC, AD_REF, SZ_REF: 13h to 1Dh
 abbrev pub settings : List ℕ
@@ -26,9 +27,9 @@ powerRegs mac iid ver =
     tidAt settings)
     0x26 (replicate 90 0xFF)
 
--- fallback, unheard, counters 0, no source
-unfoldable pub powerUp : ℕ → ℕ → ℕ → Agent
-powerUp mac iid ver = record {
+-- fallback, unheard, counters 0, no source; with what is fixed
+unfoldable pub powerUp : ℕ → ℕ → ℕ → Fixed → Agent
+powerUp mac iid ver fixed = record {
   regs = powerRegs mac iid ver;
   known = replicate 8 nobody;
   last = nobody;
@@ -40,4 +41,5 @@ powerUp mac iid ver = record {
   mode = inFallback;
   heard = unheard;
   count = 0;
+  fixed = fixed;
 }

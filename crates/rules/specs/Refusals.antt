@@ -118,6 +118,7 @@ pub record ButFor (row : Change) (a b : Agent) : Type 0 where
   pub last-source : b .last ≡ a .last
   pub recorded : b .known ≡ a .known
   pub recorded-count : b .count ≡ a .count
+  pub fixed : b .fixed ≡ a .fixed
 
 -- STATUT after a change: bit 5, bit 1, and bit 7 with fallback
 abbrev pub statusBy : Change → ℕ → ℕ

@@ -5,6 +5,7 @@ use Prim.Native.Nat.{ℕ, _+_, _-_, _%_}
 use lib.Dec.{eqb, leb, ltb}
 use Rattle.base.specs.Choice.{choose}
 use Rattle.rules.specs.Answers.{source, addressee, cycle, repeat, outOfOrder, tooMany}
+use Rattle.rules.specs.Fixed.{limitOf}
 use Rattle.rules.specs.Marks.{sequenceMarked}
 use Rattle.rules.specs.Replies.{does, readReply}
 use Rattle.rules.specs.Sources.{sidOf}
@@ -12,10 +13,6 @@ use Rattle.rules.specs.State.{isHeard, nobody, withTaken}
 use Rattle.rules.specs.Writes.{onWrite}
 use Rattle.rules.specs.declared.Agent.{Agent}
 use Rattle.rules.specs.declared.Deed.{Deed}
-
--- the most requests taken in a cycle
-abbrev pub mostTaken : ℕ
-mostTaken = 64
 
 -- the first SEQ of a cycle is the complement of CYC plus one, modulo 256
 abbrev pub firstSeq : ℕ → ℕ
@@ -34,12 +31,13 @@ abbrev pub onAsk : ℕ → Agent → ℕ → ℕ → Ask → Deed
 onAsk port a src seq (reads datl add) = readReply port a src seq datl add
 onAsk port a src seq (writes add xs) = onWrite a add xs
 
--- by the distance: below k is a repeat, above k is out of order; a request that is due raises k even if its write is then refused
+-- by the distance: below k is a repeat, above k is out of order; due but k is the limit is 15; a request that is taken raises k
+-- even if its write is then refused
 unfoldable pub onDistance : ℕ → Agent → ℕ → ℕ → ℕ → Ask → Deed
 onDistance port a src seq d ask =
     choose (ltb d (a .taken)) (does repeat a)
     (choose (ltb (a .taken) d) (does outOfOrder (sequenceMarked a))
-    (choose (leb mostTaken (a .taken)) (does tooMany a)
+    (choose (leb (limitOf a) (a .taken)) (does tooMany a)
     (onAsk port (withTaken (d + 1) a) src seq ask)))
 
 -- 10 unless the source is that of the last accepted sync; 11 unless DEST is the own SID; 12 unless the cycle is heard and CYC = c

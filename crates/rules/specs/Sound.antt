@@ -7,28 +7,28 @@ use lib.Dec.{eqb, leb, ltb}
 use lib.ListN.{getD}
 use Rattle.rules.specs.Assignments.{assignable}
 use Rattle.rules.specs.Fallback.{released, withheld}
+use Rattle.rules.specs.Fixed.{limitOf, fits}
 use Rattle.rules.specs.Registers.{typAt, tidAt, outRep, statut, outputsAt, image}
-use Rattle.rules.specs.Requests.{mostTaken}
 use Rattle.rules.specs.Sources.{distinct, below24, isRecorded, sidOf}
 use Rattle.rules.specs.State.{inRun, inFallback, isHeard, unheard, nobody, reg, tOf, nOf, mOf}
 use Rattle.rules.specs.declared.Agent.{Agent}
 
--- t, n, m are not 0, OUT_REP is 55h or AAh, TID is 8Fh or assignable, TYP is 82h
+-- t, n, m are not 0, OUT_REP is 55h or AAh, TID is 8Fh or assignable, TYP is 82h; what is fixed at power-up fits
 unfoldable pub settingsSound : Agent → Bool
 settingsSound a =
     not (eqb (tOf a) 0) && not (eqb (nOf a) 0) && not (eqb (mOf a) 0) && (eqb (reg a outRep) released || eqb (reg a outRep) withheld)
-    && (eqb (reg a tidAt) 0x8F || assignable (reg a tidAt)) && eqb (reg a typAt) 0x82
+    && (eqb (reg a tidAt) 0x8F || assignable (reg a tidAt)) && eqb (reg a typAt) 0x82 && fits (a .fixed)
 
 -- at most 8 are recorded, all distinct, each below FFFFFFh; nobody is recorded exactly when the SID is FFFFFFh
 unfoldable pub sourcesSound : Agent → Bool
 sourcesSound a =
     leb (a .count) 8 && distinct (a .known) (a .count) && below24 (a .known) (a .count) && Bool·beq (eqb (a .count) 0) (eqb (sidOf a) nobody)
 
--- k is at most 64, e at most 254; the last source is recorded, or there is none and the cycle is unheard; heard has one
+-- k is at most the limit, e at most 254; the last source is recorded, or there is none and the cycle is unheard; heard has one
 -- of its two values
 unfoldable pub countersSound : Agent → Bool
 countersSound a =
-    leb (a .taken) mostTaken && leb (a .elapsed) 254 && (isRecorded a (a .last) || (eqb (a .last) nobody && eqb (a .heard) unheard))
+    leb (a .taken) (limitOf a) && leb (a .elapsed) 254 && (isRecorded a (a .last) || (eqb (a .last) nobody && eqb (a .heard) unheard))
     && (eqb (a .heard) isHeard || eqb (a .heard) unheard)
 
 -- the first n outputs are 0

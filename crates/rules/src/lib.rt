@@ -3,6 +3,13 @@
 use frame_kinds::kinds::Frame;
 ghost use mathlib.Core.Path.{_≡_};
 
+// What is fixed at power-up: no call changes it.
+#[repr(C)]
+pub struct Fixed {
+    // how many requests are taken in a cycle: 16 or 64
+    pub limit: u8,
+}
+
 // Unsigned numbers and arrays only: every bit pattern that a host passes in is a value, and the test for soundness decides.
 #[repr(C)]
 pub struct Agent {
@@ -26,6 +33,7 @@ pub struct Agent {
     // whether the cycle is heard (1) or not (0)
     pub heard: u8,
     pub count: u8,
+    pub fixed: Fixed,
 }
 
 // The write spans; a write covers one of them or a part of it. `Outside` is none of them.

@@ -1,5 +1,6 @@
 -- The log that a run of the code writes, the history read off the log, and the promise of a run over a whole list of
 -- calls. Assumes nothing.
+use mathlib.Core.Bool.{true}
 use mathlib.Core.List.{List, [], _∷_}
 use mathlib.Core.Path.{_≡_}
 use Prim.Native.Nat.{ℕ, _+_, _*_, _≤_}
@@ -8,6 +9,7 @@ use Rattle.rules.specs.Calls.{Call}
 use Rattle.rules.specs.declared.Agent.{Agent}
 use Rattle.demand3.specs.Claim.{Holds}
 use Rattle.demand3.specs.History.{History, powerOn, _▸_, Seen, seenOf, callEntry}
+use Rattle.demand3.specs.Numbers.{isLimit}
 use Rattle.demand3.specs.Reached.{Reached}
 use Rattle.demand3.specs.Sharper.{Sharper}
 use Rattle.runs.specs.CallBytes.{listBytes, AllMakable}
@@ -36,7 +38,8 @@ pub record Ran (calls : List Call) (a : Agent) (log : List ℕ) : Type 0 where
   pub sharper : Sharper (logged powerOn calls log)
   pub reached : Reached (logged powerOn calls log) a
 
--- this holds for every list of calls that the bytes s stand for, with a reply buffer and a log that are long enough
-abbrev pub RunsAny : (s : List ℕ) (room places : ℕ) (a : Agent) (log : List ℕ) → Type 0
-RunsAny s room places a log =
-    (calls : List Call) → s ≡ listBytes calls → AllMakable room calls → recordSize + recordSize * length calls ≤ places → Ran calls a log
+-- this holds for a limit of requests that is 16 or 64 and every list of calls that the bytes s stand for, with a reply buffer
+-- and a log that are long enough
+abbrev pub RunsAny : (limit : ℕ) (s : List ℕ) (room places : ℕ) (a : Agent) (log : List ℕ) → Type 0
+RunsAny limit s room places a log =
+    isLimit limit ≡ true → (calls : List Call) → s ≡ listBytes calls → AllMakable room calls → recordSize + recordSize * length calls ≤ places → Ran calls a log

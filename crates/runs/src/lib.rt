@@ -15,13 +15,14 @@ pub fn run_calls(
     mac: u64,
     iid: u64,
     ver: u16,
+    limit: u8,
     calls: &[u8],
     reply: &mut [u8],
     log: &mut [u8],
 ) -> Agent
-    ensures { λ r. ⌜ RunsAny (now (calls .entry)) (length (now (reply .entry))) (length (now (log .entry))) r (now (log .exit)) ⌝ }
+    ensures { λ r. ⌜ RunsAny limit (now (calls .entry)) (length (now (reply .entry))) (length (now (log .entry))) r (now (log .exit)) ⌝ }
 {
-    let mut a = promised::power_up(mac, iid, ver);
+    let mut a = promised::power_up(mac, iid, ver, limit);
     if log.len() < RECORD {
         return a;
     }

@@ -1,6 +1,6 @@
 -- The script's module is good after every line, whatever the lines are: so every tick call is answered 0, as the
 -- definition prints it, and no line prints 19. Assumes nothing.
-use mathlib.Core.Path.{_≡_}
+use mathlib.Core.Path.{_≡_, refl}
 use mathlib.Core.List.{List, [], _∷_}
 use mathlib.Core.Option.{Option, none, some}
 use Prim.Native.Nat.{ℕ, zero, suc, _-_, _≤_, _<_}
@@ -21,11 +21,12 @@ use Rattle.text.specs.declared.hex.Pair.{Pair}
 use Rattle.text.specs.declared.hex.Pair.the-variants.{Byte, Other}
 use Rattle.rules.specs.Calls as calls
 use Rattle.rules.specs.Calls.{tickCall}
+use Rattle.rules.specs.Fixed.{doorsLimit, fixedBy}
 use Rattle.rules.specs.Good.{Good}
 use Rattle.rules.specs.Registers.{inputsAt, image}
 use Rattle.rules.specs.declared.Agent.{Agent}
 use Rattle.rules.proofs.GoodNext.{good-next}
-use Rattle.rules.proofs.GoodStart.{good-start}
+use Rattle.rules.proofs.GoodStart.{limit-fits, good-start}
 use Rattle.rules.proofs.NeverUnsound.{never-unsound}
 use Rattle.console.specs.Programs.{nextAll}
 use Rattle.script_lines.specs.Forms.{Step, ticks, frame, inputs, bad, longest, mostTicks, ticksOf, frameOf, inputsOf, formOf, lineOf}
@@ -127,7 +128,7 @@ from-good view p [] g = g
 from-good view p (l ∷ ls) g = from-good view (after p (lineOf l)) ls (done-good (p .agent) (lineOf l) g (line-sized l))
 
 pub script-good : (view : View) (ls : List (List ℕ)) → Good (nextAll (scripted view) start ls .agent)
-script-good view ls = from-good view start ls (good-start 1 2 0)
+script-good view ls = from-good view start ls (good-start 1 2 0 (fixedBy doorsLimit) (limit-fits doorsLimit refl))
 
 -- ---- so the answers printed are those of the calls
 pub tick-accepted : (a : Agent) (xs : List ℕ) → Good a → length xs ≡ 64 → tickCall a xs .answer ≡ 0

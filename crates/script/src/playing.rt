@@ -9,6 +9,7 @@ ghost use Rattle.script_text.specs.Printing.{printed};
 ghost use Rattle.script.specs.Playing.{start, after, shown};
 use agent::power_up::power_up;
 use agent_replies::sending::Handled;
+use agent_state::limit::DOORS_LIMIT;
 use rules::Agent;
 use script_lines::doing::do_form;
 use script_lines::doing::no_reply;
@@ -32,11 +33,11 @@ pub struct Played {
     pub next: usize,
 }
 
-// Power-up with MAC 1, IID 2 and VER 0.
+// Power-up with MAC 1, IID 2, VER 0 and the limit of doors, 64.
 pub fn start() -> Player
     ensures { λ r. ⌜ r ≡ start ⌝ }
 {
-    let agent = power_up(1, 2, 0);
+    let agent = power_up(1, 2, 0, DOORS_LIMIT);
     Player { agent, lines: 0 }
 }
 

@@ -1,8 +1,8 @@
 //! The state of the second implementation in the layout of `include/saturn.h`, and back.
 
-use crate::library::{SaturnAgent, FALLBACK, RECORDED_MAX, RUN};
+use crate::library::{SaturnAgent, SaturnFixed, FALLBACK, RECORDED_MAX, RUN};
 use peer::module::registers::Registers;
-use peer::module::{Agent, Mode, NO_SID};
+use peer::module::{Agent, Fixed, Mode, NO_SID};
 
 /// What no sound agent has in these places is left as `before` has it.
 pub fn laid_out(agent: &Agent, before: &SaturnAgent) -> SaturnAgent {
@@ -23,6 +23,9 @@ pub fn laid_out(agent: &Agent, before: &SaturnAgent) -> SaturnAgent {
         },
         heard: agent.heard as u8,
         count: agent.recorded.len() as u8,
+        fixed: SaturnFixed {
+            limit: agent.fixed.limit,
+        },
     }
 }
 
@@ -52,6 +55,9 @@ pub fn read(state: &SaturnAgent) -> Option<Agent> {
         taken: state.taken,
         source: (state.last != NO_SID).then_some(state.last),
         recorded: state.known[..count].to_vec(),
+        fixed: Fixed {
+            limit: state.fixed.limit,
+        },
     })
 }
 
@@ -68,4 +74,5 @@ pub const BLANK: SaturnAgent = SaturnAgent {
     mode: 0,
     heard: 0,
     count: 0,
+    fixed: SaturnFixed { limit: 0 },
 };

@@ -12,7 +12,7 @@ pub use list::{of_list, ListCensus};
 use crate::body;
 use crate::frame::{self, com, Frame};
 use crate::module::registers::{CONF, CPT_FOR, CPT_SEQ, SILENT};
-use crate::module::{Agent, Mode, REQUESTS_MAX};
+use crate::module::{Agent, Mode};
 use crate::script::{parse, Line, Lines, Played, Player};
 use std::collections::{BTreeMap, HashMap};
 use std::fmt;
@@ -153,8 +153,8 @@ impl Census {
         let (Frame::SafeRead { head, .. } | Frame::SafeWrite { head, .. }) = *frame else {
             return;
         };
-        if before.taken == REQUESTS_MAX && (13..=15).contains(&answer) {
-            self.add(&format!("with 64 taken: {answer}"));
+        if before.taken == before.fixed.limit && (13..=15).contains(&answer) {
+            self.add(&format!("with {} taken: {answer}", before.taken));
         }
         let deposed = before.recorded.contains(&head.src) && before.source != Some(head.src);
         if answer == 10 && deposed && before.source.is_some() {

@@ -4,7 +4,7 @@ use super::module::{Bench, FIRST, OWN};
 use super::Tally;
 use crate::frame::{com, Frame, Head};
 use crate::generate::speech;
-use crate::module::{first_seq, Agent, Mode};
+use crate::module::{first_seq, Agent, Fixed, Mode};
 
 pub fn run(tally: &mut Tally) {
     first_seqs(tally);
@@ -44,7 +44,7 @@ fn wrong_stuffing(tally: &mut Tally) {
         for (case, end) in [("P5", vec![0x7D, 0x31]), ("P6", vec![0x7D])] {
             let mut body = vec![0x11; length - end.len()];
             body.extend(end);
-            let mut agent = Agent::power_up(1, 2, 0);
+            let mut agent = Agent::power_up(1, 2, 0, Fixed::DOORS);
             let outcome = agent.frame(1, &body, &mut [0; 545]);
             let right = outcome.number == 2 && agent.registers[0x19] == 0xA0;
             tally.check(right, &format!("{case}, {length} bytes"));
@@ -54,7 +54,7 @@ fn wrong_stuffing(tally: &mut Tally) {
 
 /// P8.
 fn first_cycle(tally: &mut Tally) {
-    let mut agent = Agent::power_up(1, 2, 0);
+    let mut agent = Agent::power_up(1, 2, 0, Fixed::DOORS);
     for tick in 1..=255 {
         agent.tick(&[0; 64]).expect("a sound state");
         let expected = if tick < 255 { 0 } else { 1 };
@@ -135,13 +135,15 @@ fn response(frame: Frame) -> Option<(u8, u8, u8)> {
     }
 }
 
-/// P14.
+/// P14, the module's limit being 64, and the same with 16.
 fn many_requests(tally: &mut Tally) {
-    let mut bench = Bench::running(10, 2, 5, 0x07);
-    for request in 1..=65 {
-        let (number, reply) = bench.read(1, 0x10);
-        let expected = if request <= 64 { 0 } else { 15 };
-        let right = number == expected && reply.is_some() == (expected == 0);
-        tally.check(right, &format!("P14, request {request}"));
+    for limit in [64, 16] {
+        let mut bench = Bench::limited(limit);
+        for request in 1..=limit + 1 {
+            let (number, reply) = bench.read(1, 0x10);
+            let expected = if request <= limit { 0 } else { 15 };
+            let right = number == expected && reply.is_some() == (expected == 0);
+            tally.check(right, &format!("P14, limit {limit}, request {request}"));
+        }
     }
 }

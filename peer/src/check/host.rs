@@ -2,7 +2,7 @@
 
 use super::module::{Bench, FIRST};
 use super::Tally;
-use crate::module::{Agent, Mode};
+use crate::module::{Agent, Fixed, Mode};
 use crate::refusal::Refusal;
 
 type Spoil = fn(&mut Agent);
@@ -60,7 +60,7 @@ const HARMLESS: [(&str, Spoil); 6] = [
 
 pub fn run(tally: &mut Tally) {
     let running = Bench::running(10, 2, 5, 0x07).agent;
-    let fallback = Agent::power_up(1, 2, 0);
+    let fallback = Agent::power_up(1, 2, 0, Fixed::DOORS);
     tally.check(running.sound() && fallback.sound(), "both are sound");
     for (what, spoil) in IN_RUN {
         unsound(tally, what, &running, spoil);
@@ -85,15 +85,20 @@ pub fn run(tally: &mut Tally) {
     order(tally, &running);
 }
 
-/// Both calls answer 19 before all else and change nothing.
 fn unsound(tally: &mut Tally, what: &str, sound: &Agent, spoil: Spoil) {
     let mut agent = sound.clone();
     spoil(&mut agent);
+    refused(tally, what, agent);
+}
+
+/// Both calls answer 19 before all else and change nothing.
+pub fn refused(tally: &mut Tally, what: &str, mut agent: Agent) {
     let before = agent.clone();
     let mut right = [0, 63, 64, 65]
         .iter()
         .all(|&length| agent.tick(&vec![9; length]) == Err(Refusal::Unsound));
     right &= agent.frame(3, &[], &mut []).number == 19;
+    right &= agent.frame(1, &[0; 6], &mut [0; 545]).number == 19;
     tally.check(right && agent == before, &format!("unsound: {what}"));
 }
 

@@ -1,9 +1,10 @@
 //! Self checks: stored vectors, published and proved values, round trips of every kind, the
-//! cases on the bench, what the host may do wrong, the tick call, the traps, the script and the frame
-//! program.
+//! cases on the bench, what the host may do wrong, the limit of requests, the tick call, the traps, the
+//! script and the frame program.
 
 mod bench;
 mod host;
+mod limit;
 mod lists;
 mod module;
 mod rules;
@@ -48,6 +49,7 @@ pub fn run() -> Tally {
     traps::run(&mut tally);
     rules::run(&mut tally);
     host::run(&mut tally);
+    limit::run(&mut tally);
     tick::run(&mut tally);
     script::run(&mut tally);
     spelling::run(&mut tally);

@@ -3,7 +3,7 @@
 use crate::frame::{self, Frame, Head, SidAssignment, BROADCAST};
 use crate::generate::draft::Draft;
 use crate::generate::speech;
-use crate::module::{Agent, Mode, Outcome};
+use crate::module::{Agent, Fixed, Mode, Outcome};
 
 pub const OWN: u32 = 0x7D_5E01;
 pub const FIRST: u32 = 0x11_EE11;
@@ -21,8 +21,12 @@ pub struct Bench {
 impl Bench {
     /// Powered up, with a SID and two concentrators, no sync yet.
     pub fn named() -> Bench {
+        Bench::named_as(Fixed::DOORS)
+    }
+
+    fn named_as(fixed: Fixed) -> Bench {
         let mut bench = Bench {
-            agent: Agent::power_up(1, 2, 0),
+            agent: Agent::power_up(1, 2, 0, fixed),
             buffer: [0; 545],
             src: FIRST,
             cyc: 0,
@@ -36,13 +40,21 @@ impl Bench {
 
     /// In RUN in the heard cycle `cyc`, just begun, no request taken.
     pub fn running(t: u8, n: u8, m: u8, cyc: u8) -> Bench {
-        let mut bench = Bench::named();
-        bench.sync(cyc.wrapping_sub(1));
-        bench.write(0x18, &[t]);
-        bench.write(0x1A, &[m, n]);
-        bench.write(0x17, &[0x55]);
-        bench.sync(cyc);
-        bench
+        Bench::named().run(t, n, m, cyc)
+    }
+
+    /// In RUN as above, with this limit of requests.
+    pub fn limited(limit: u8) -> Bench {
+        Bench::named_as(Fixed { limit }).run(10, 2, 5, 0x07)
+    }
+
+    fn run(mut self, t: u8, n: u8, m: u8, cyc: u8) -> Bench {
+        self.sync(cyc.wrapping_sub(1));
+        self.write(0x18, &[t]);
+        self.write(0x1A, &[m, n]);
+        self.write(0x17, &[0x55]);
+        self.sync(cyc);
+        self
     }
 
     pub fn runs(&self) -> bool {

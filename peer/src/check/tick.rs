@@ -3,7 +3,7 @@
 use super::module::Bench;
 use super::Tally;
 use crate::module::registers::{HOLD, INPUTS, OUTPUTS, OUT_REP, REP, STATUT};
-use crate::module::{Agent, Mode};
+use crate::module::{Agent, Fixed, Mode};
 use crate::refusal::Refusal;
 
 /// More calls than any limit has ticks.
@@ -39,7 +39,7 @@ fn starts() -> [Start; 5] {
     sync.ticks(19);
     output.agent.since_output = 49;
     [
-        start("power-up", Agent::power_up(1, 2, 0), one_ms),
+        start("power-up", Agent::power_up(1, 2, 0, Fixed::DOORS), one_ms),
         start("RUN", running.agent, one_ms_in_run),
         start("RUN, its cycle ends", cycle.agent, |agent| {
             one_ms_in_run(agent);
@@ -118,7 +118,7 @@ fn silence(tally: &mut Tally, what: &str, [n, m]: [u8; 2], before: usize) {
 
 /// Nor do they bring a cycle to its end, one before each that ticks.
 fn cycle(tally: &mut Tally) {
-    let mut agent = Agent::power_up(1, 2, 0);
+    let mut agent = Agent::power_up(1, 2, 0, Fixed::DOORS);
     for tick in 1..=255 {
         let answers = [agent.tick(&[9; 65]), agent.tick(&[9; 64])];
         let expected = if tick < 255 { 0 } else { 1 };

@@ -20,7 +20,7 @@ mod script;
 pub mod speech;
 
 pub use frame_lines::frame_lines;
-pub use script::script;
+pub use script::{script, script_as};
 
 use crate::cases::Program;
 use random::Random;

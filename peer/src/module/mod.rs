@@ -5,6 +5,7 @@
 
 mod assignment;
 mod call;
+mod fixed;
 mod marks;
 mod mode;
 pub mod registers;
@@ -17,13 +18,13 @@ mod write;
 
 pub use assignment::assignable;
 pub use call::{Outcome, REPLY_ROOM};
+pub use fixed::{Fixed, LIMITS};
 pub use mode::Mode;
 pub use request::first_seq;
 
 use registers::Registers;
 
 pub const RECORDED_MAX: usize = 8;
-pub const REQUESTS_MAX: u8 = 64;
 pub const NO_SID: u32 = 0xFF_FFFF;
 
 #[derive(Clone, Debug, PartialEq, Eq)]
@@ -41,10 +42,11 @@ pub struct Agent {
     pub source: Option<u32>,
     /// The concentrators, in the order of their SID assignments.
     pub recorded: Vec<u32>,
+    pub fixed: Fixed,
 }
 
 impl Agent {
-    pub fn power_up(mac: u64, iid: u64, ver: u16) -> Agent {
+    pub fn power_up(mac: u64, iid: u64, ver: u16, fixed: Fixed) -> Agent {
         Agent {
             registers: Registers::power_up(mac, iid, ver),
             mode: Mode::Fallback,
@@ -56,6 +58,7 @@ impl Agent {
             taken: 0,
             source: None,
             recorded: Vec::new(),
+            fixed,
         }
     }
 

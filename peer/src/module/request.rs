@@ -1,6 +1,6 @@
 //! A safe request, read or write: whether it is the due one of the cycle.
 
-use super::{Agent, REQUESTS_MAX};
+use super::Agent;
 use crate::frame::Head;
 use crate::refusal::Refusal;
 
@@ -34,7 +34,7 @@ impl Agent {
         if distance > self.taken {
             return Err(Refusal::OutOfOrder);
         }
-        if self.taken == REQUESTS_MAX {
+        if self.taken == self.fixed.limit {
             return Err(Refusal::TooMany);
         }
         Ok(())

@@ -1,11 +1,12 @@
 //! Which states are sound. A host could hand in any state; no call works on an unsound one.
 
 use super::registers::*;
-use super::{assignable, Agent, Mode, NO_SID, RECORDED_MAX, REQUESTS_MAX};
+use super::{assignable, Agent, Mode, NO_SID, RECORDED_MAX};
 
 impl Agent {
     pub fn sound(&self) -> bool {
-        self.settings_sound()
+        self.fixed.sound()
+            && self.settings_sound()
             && self.concentrators_sound()
             && self.clocks_sound()
             && match self.mode {
@@ -40,7 +41,7 @@ impl Agent {
     }
 
     fn clocks_sound(&self) -> bool {
-        self.taken <= REQUESTS_MAX && self.in_cycle <= 254
+        self.taken <= self.fixed.limit && self.in_cycle <= 254
     }
 
     fn run_sound(&self) -> bool {

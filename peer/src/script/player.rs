@@ -1,7 +1,7 @@
 //! The module of a script and what one line does to it.
 
 use super::line::{parse, Line};
-use crate::module::{Agent, Mode, REPLY_ROOM};
+use crate::module::{Agent, Fixed, Mode, REPLY_ROOM};
 use crate::refusal::Refusal;
 
 pub struct Player {
@@ -17,10 +17,15 @@ pub struct Played {
 }
 
 impl Player {
-    /// The module of every script: MAC 1, IID 2, VER 0.
+    /// The module of every script: MAC 1, IID 2, VER 0, a limit of 64 requests.
     pub fn power_up() -> Player {
+        Player::power_up_as(Fixed::DOORS)
+    }
+
+    /// The same module but for what is fixed at power-up.
+    pub fn power_up_as(fixed: Fixed) -> Player {
         Player {
-            agent: Agent::power_up(1, 2, 0),
+            agent: Agent::power_up(1, 2, 0, fixed),
             buffer: [0; REPLY_ROOM],
         }
     }

@@ -1,6 +1,7 @@
 -- `agent_requests::on_distance` meets its contract: below k, above k, at the limit, due. Assumes nothing.
 use borrow.Author.Tests.{lt-ltb, le-ltb, le-leb, lt-leb}
 use borrow.Author.Needs.{needs}
+use Rattle.rules.specs.Fixed.{limitOf}
 use Rattle.rules.specs.Requests.{onDistance}
 use Rattle.agent_requests.proofs.on_distance.Statement.{statement}
 use Rattle.agent_requests.proofs.on_distance.Tie as tie
@@ -30,8 +31,8 @@ does-requires-3 c κs = search needs
 
 returns-3 : tie.Need-returns-3
 unfolding onDistance
-returns-3 c = (
-  rw (le-ltb _ _ (c .before .before .before .before .before .if1 .left), le-ltb _ _ (c .before .before .before .if2 .left), le-leb _ _ (c .before .if3 .taken)) (c .does3 .ensures .0),
+returns-3 c = let a = c .before .before .before .before .before .before .before .before .args .a in (
+  rw (le-ltb _ _ (c .before .before .before .before .before .if1 .left), le-ltb _ _ (c .before .before .before .if2 .left), le-leb (limitOf a) (a .taken) (c .before .if3 .taken)) (c .does3 .ensures .0),
   c .does3 .ensures .1,
 )
 
@@ -43,8 +44,8 @@ on-ask-requires c κs = search needs
 
 returns-4 : tie.Need-returns-4
 unfolding onDistance
-returns-4 c = (
-  rw (le-ltb _ _ (c .before .before .before .before .before .if1 .left), le-ltb _ _ (c .before .before .before .if2 .left), lt-leb _ _ (c .before .if3 .left)) (c .on-ask .ensures .0),
+returns-4 c = let a = c .before .before .before .before .before .before .before .before .args .a in (
+  rw (le-ltb _ _ (c .before .before .before .before .before .if1 .left), le-ltb _ _ (c .before .before .before .if2 .left), lt-leb (limitOf a) (a .taken) (c .before .if3 .left)) (c .on-ask .ensures .0),
   c .on-ask .ensures .1,
 )
 

@@ -8,7 +8,7 @@ power-up-requires : tie.Need-power-up-requires
 power-up-requires c κs = search needs
 
 returns : tie.Need-returns
-returns c = (c .power-up .ensures, begins _ _ _ _ (c .power-up .ensures))
+returns c = (c .power-up .ensures, begins _ _ _ _ _ (c .power-up .ensures))
 
 pub power-up-spec : {M : Type 1} → statement M
 power-up-spec = tie.close (tie.spec power-up-requires returns)

@@ -3,7 +3,7 @@
 use host::library::{saturn_frame, saturn_tick, SaturnAgent};
 use host::second::{peer_frame, peer_tick};
 use host::state;
-use peer::module::{Agent, REPLY_ROOM};
+use peer::module::{Agent, Fixed, REPLY_ROOM};
 
 type Tick<A> = unsafe extern "C" fn(*mut A, *const u8, usize) -> u8;
 type Frame<A> = unsafe extern "C" fn(*mut A, u8, *const u8, usize, *mut u8, usize, *mut u16) -> u8;
@@ -31,7 +31,7 @@ impl Side<SaturnAgent> {
 impl Side<Agent> {
     pub fn second() -> Self {
         Side {
-            agent: Agent::power_up(1, 2, 0),
+            agent: Agent::power_up(1, 2, 0, Fixed::DOORS),
             reply: [0; REPLY_ROOM],
             sent: 0,
             tick: peer_tick,

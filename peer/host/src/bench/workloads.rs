@@ -6,7 +6,7 @@ use peer::frame::{Head, SidAssignment};
 use peer::generate::random::Random;
 use peer::generate::{damage, sample, speech};
 use peer::module::registers::{CNF_REP, OUT_REP, RELEASE};
-use peer::module::{first_seq, Agent, REPLY_ROOM};
+use peer::module::{first_seq, Agent, Fixed, REPLY_ROOM};
 use std::collections::BTreeMap;
 
 const MAC: u64 = 1;
@@ -183,7 +183,7 @@ pub fn make<A: Settable>(side: &mut Side<A>, call: &Call) -> u8 {
 
 /// Names given and n and m at 255; a cycle is heard in fallback.
 fn heard(recorded: u32) -> Agent {
-    let mut agent = Agent::power_up(MAC, IID, 0);
+    let mut agent = Agent::power_up(MAC, IID, 0, Fixed::DOORS);
     take(&mut agent, &speech::tid(0xFF, IID, TID).body());
     for place in 0..recorded {
         let assignment = SidAssignment {

@@ -11,9 +11,9 @@ pub const HARMLESS: [(&str, Change); 9] = [
     ("e any", |random, state| {
         state.elapsed = random.below(255) as u8
     }),
-    ("k at 64", |_, state| state.taken = 64),
-    ("k any", |random, state| {
-        state.taken = random.below(65) as u8
+    ("k at the limit", |_, state| state.taken = state.fixed.limit),
+    ("k any up to the limit", |random, state| {
+        state.taken = random.below(state.fixed.limit as usize + 1) as u8
     }),
     ("unheard", |_, state| state.heard = 0),
     ("c any", |random, state| state.cycle = random.byte()),
@@ -50,8 +50,12 @@ pub fn any_bytes(random: &mut Random, state: &mut SaturnAgent) {
                     &mut state.mode,
                     &mut state.heard,
                     &mut state.count,
+                    &mut state.fixed.limit,
                 ];
-                *fields.into_iter().nth(random.below(6)).expect("one of six") = byte;
+                *fields
+                    .into_iter()
+                    .nth(random.below(7))
+                    .expect("one of seven") = byte;
             }
         }
     }

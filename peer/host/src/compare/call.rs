@@ -33,7 +33,7 @@ pub fn fresh_reply(room: usize) -> Vec<u8> {
 /// Not what any call without a frame leaves in it.
 const NO_SENT: u16 = 0xBEEF;
 
-pub fn wanted(before: &SaturnAgent, call: &Call) -> Left {
+fn wanted(before: &SaturnAgent, call: &Call) -> Left {
     let mut left = Left {
         answer: Refusal::Unsound.number(),
         state: *before,
@@ -60,12 +60,23 @@ pub fn wanted(before: &SaturnAgent, call: &Call) -> Left {
     left
 }
 
+/// What both leave; or, in words, the difference.
+pub fn compared(before: &SaturnAgent, call: &Call) -> Result<Left, String> {
+    let (wanted, given) = (wanted(before, call), given(before, call));
+    match given == wanted {
+        true => Ok(given),
+        false => Err(format!(
+            "{call:?}\nbefore {before:?}\nwanted {wanted:?}\ngiven  {given:?}"
+        )),
+    }
+}
+
 fn number(outcome: Result<(), Refusal>) -> u8 {
     outcome.map_or_else(Refusal::number, |()| 0)
 }
 
 /// Panics if the library writes what it is only lent to read.
-pub fn given(before: &SaturnAgent, call: &Call) -> Left {
+fn given(before: &SaturnAgent, call: &Call) -> Left {
     let mut left = Left {
         answer: 0,
         state: *before,

@@ -1,11 +1,12 @@
 //! The static library beside the second implementation, call by call and byte by byte.
 //!
-//! `compare SEED SCRIPTS LINES`: SCRIPTS scripts of LINES lines each, with calls between the lines
-//! on unsound states, short buffers, other ports and inputs of other lengths. Stops at the first
-//! difference.
+//! `compare SEED SCRIPTS LINES`: SCRIPTS scripts of LINES lines each, on modules with either limit of
+//! requests in turn, with calls between the lines on unsound states, short buffers, other ports, inputs
+//! of other lengths and requests around the limit. Stops at the first difference.
 
 mod alter;
 mod call;
+mod flood;
 mod play;
 mod power;
 mod spoil;

@@ -1,7 +1,8 @@
 //! A script on the library's agent, every call compared, with calls between that no script has.
 
 use crate::alter::{any_bytes, HARMLESS};
-use crate::call::{given, wanted, Call};
+use crate::call::{compared, Call};
+use crate::flood;
 use crate::spoil::WAYS;
 use crate::tally::{Tally, INPUTS_MAX, INPUTS_SOUND, INPUTS_UNSOUND, SHORT_BUFFERS};
 use host::library::SaturnAgent;
@@ -9,7 +10,7 @@ use host::state;
 use peer::generate::random::Random;
 use peer::generate::{self, sample};
 use peer::module::registers::INPUTS;
-use peer::module::{Agent, REPLY_ROOM};
+use peer::module::{Agent, Fixed, REPLY_ROOM};
 use peer::script::{parse, Line};
 
 /// Calls between: of each sort, one in this many lines.
@@ -18,11 +19,21 @@ const HARMLESS_CHANGE: usize = 30;
 const ANY_BYTES: usize = 4;
 const SHORT_BUFFER: usize = 2;
 const WRONG_HOST: usize = 6;
+const FLOOD: usize = 8;
+
+/// What is fixed in the module, and in the one that the scenes are for; by the seed in turn.
+const FIXED: [(Fixed, Fixed); 4] = [
+    (Fixed::DOORS, Fixed::DOORS),
+    (Fixed::LIGHTING, Fixed::LIGHTING),
+    (Fixed::DOORS, Fixed::DOORS),
+    (Fixed::LIGHTING, Fixed::DOORS),
+];
 
 pub struct Play<'a> {
     random: Random,
     seed: u64,
     line: usize,
+    scenes: Fixed,
     state: SaturnAgent,
     /// The next way, the next short length, and the next length of inputs.
     way: usize,
@@ -34,10 +45,12 @@ pub struct Play<'a> {
 impl<'a> Play<'a> {
     pub fn new(seed: u64, tally: &'a mut Tally) -> Play<'a> {
         let random = Random::new(!seed);
+        let (fixed, scenes) = FIXED[seed as usize % FIXED.len()];
         Play {
             seed,
             line: 0,
-            state: state::laid_out(&Agent::power_up(1, 2, 0), &state::BLANK),
+            scenes,
+            state: state::laid_out(&Agent::power_up(1, 2, 0, fixed), &state::BLANK),
             way: seed as usize,
             room: seed as usize * 101 % REPLY_ROOM,
             length: seed as usize,
@@ -48,7 +61,7 @@ impl<'a> Play<'a> {
 
     /// BAD lines are passed over.
     pub fn script(&mut self, lines: usize) -> Result<(), String> {
-        let script = generate::script(self.seed, lines);
+        let script = generate::script_as(self.scenes, self.seed, lines);
         for line in script.split(|&byte| byte == b'\n') {
             self.line += 1;
             match parse(line) {
@@ -84,15 +97,12 @@ impl<'a> Play<'a> {
 
     /// The answer and the state after it, the same on both sides.
     fn compare(&mut self, before: &SaturnAgent, call: &Call) -> Result<(u8, SaturnAgent), String> {
-        let (wanted, given) = (wanted(before, call), given(before, call));
-        if given != wanted {
-            let (seed, line) = (self.seed, self.line);
-            return Err(format!(
-                "seed {seed}, line {line}: {call:?}\nbefore {before:?}\nwanted {wanted:?}\ngiven  {given:?}"
-            ));
-        }
-        self.tally.add(&format!("answer {:2}", given.answer));
-        Ok((given.answer, given.state))
+        let (seed, line) = (self.seed, self.line);
+        let left = compared(before, call)
+            .map_err(|difference| format!("seed {seed}, line {line}: {difference}"))?;
+        let answer = format!("answer {:2}", left.answer);
+        self.tally.add_limited(&answer, before.fixed.limit);
+        Ok((left.answer, left.state))
     }
 
     /// Calls on other states and with other arguments, most of which leave nothing behind.
@@ -112,6 +122,9 @@ impl<'a> Play<'a> {
         }
         if self.random.one_in(WRONG_HOST) {
             self.wrong_host(call)?;
+        }
+        if self.random.one_in(FLOOD) {
+            self.flood()?;
         }
         if self.random.one_in(HARMLESS_CHANGE) {
             self.harmless(call)?;
@@ -191,6 +204,20 @@ impl<'a> Play<'a> {
         let inputs = self.next_inputs();
         self.tally.add_length(INPUTS_SOUND, inputs.len());
         self.compare(&before, &Call::Tick(inputs))?;
+        Ok(())
+    }
+
+    /// The last requests that the limit lets in, and some that it does not.
+    fn flood(&mut self) -> Result<(), String> {
+        let mut state = self.state;
+        if state.heard == 0 {
+            return Ok(());
+        }
+        state.taken = state.fixed.limit - self.random.below(3) as u8;
+        for _ in 0..6 {
+            let call = flood::request(&mut self.random, &state);
+            state = self.compare(&state, &call)?.1;
+        }
         Ok(())
     }
 

@@ -1,9 +1,9 @@
-//! The ways to make a state unsound: each point of document 01's list and of decision A18.
+//! The ways to make a state unsound: each point of document 01's list and of decisions A18 and R6.2.
 
 use host::library::{SaturnAgent, FALLBACK, RUN};
 use peer::generate::random::Random;
-use peer::module::assignable;
 use peer::module::registers::*;
+use peer::module::{assignable, LIMITS};
 
 pub struct Way {
     pub name: &'static str,
@@ -17,7 +17,7 @@ const fn way(name: &'static str, make: fn(&mut Random, &mut SaturnAgent) -> bool
 
 const NO_SID: u32 = 0xFF_FFFF;
 
-pub const WAYS: [Way; 33] = [
+pub const WAYS: [Way; 36] = [
     way("t is 0", |_, state| set(state, TCYC, 0)),
     way("n is 0", |_, state| set(state, CNF_CYC, 0)),
     way("m is 0", |_, state| set(state, CNF_REP, 0)),
@@ -65,12 +65,25 @@ pub const WAYS: [Way; 33] = [
         state.known[0] = random.below(NO_SID as usize) as u32;
         none
     }),
-    way("k is 65", |_, state| {
-        state.taken = 65;
+    way("k one above the limit", |_, state| {
+        state.taken = state.fixed.limit + 1;
         true
     }),
-    way("k above 64", |random, state| {
-        state.taken = 65 + random.below(191) as u8;
+    way("k above the limit", |random, state| {
+        let above = random.below(255 - state.fixed.limit as usize) as u8;
+        state.taken = state.fixed.limit + 1 + above;
+        true
+    }),
+    way("k 17 to 64 with limit 16", |random, state| {
+        (state.taken, state.fixed.limit) = (17 + random.below(48) as u8, 16);
+        true
+    }),
+    way("limit neither 16 nor 64", |random, state| {
+        state.fixed.limit = other_than(random, &LIMITS);
+        true
+    }),
+    way("limit 0, 15, 17, 63, 65 or 255", |random, state| {
+        state.fixed.limit = random.pick(&[0, 15, 17, 63, 65, 255]);
         true
     }),
     way("e is 255", |_, state| {

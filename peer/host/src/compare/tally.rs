@@ -2,11 +2,12 @@
 
 use crate::alter::HARMLESS;
 use crate::spoil::WAYS;
-use peer::module::REPLY_ROOM;
+use peer::module::{LIMITS, REPLY_ROOM};
 use std::collections::BTreeMap;
 use std::fmt;
 use std::process::ExitCode;
 
+pub const POWER_UP: &str = "power-up";
 pub const SHORT_BUFFERS: &str = "short buffers";
 pub const INPUTS_SOUND: &str = "inputs, the state sound";
 pub const INPUTS_UNSOUND: &str = "inputs, the state unsound";
@@ -21,6 +22,13 @@ const LENGTHS: [(&str, usize); 3] = [
     (INPUTS_UNSOUND, INPUTS_MAX),
 ];
 
+/// What must come up with each of these limits of requests; 0 stands for all that are unfit.
+const BY_LIMIT: [(&str, &[u8]); 3] = [
+    ("answer 15", &[16, 64]),
+    ("answer 19", &[16, 64, 0]),
+    (POWER_UP, &[16, 64, 0]),
+];
+
 #[derive(Default)]
 pub struct Tally {
     counts: BTreeMap<String, usize>,
@@ -30,6 +38,14 @@ pub struct Tally {
 impl Tally {
     pub fn add(&mut self, what: &str) {
         *self.counts.entry(what.to_string()).or_default() += 1;
+    }
+
+    /// By the limit of the state too, if that is asked for.
+    pub fn add_limited(&mut self, what: &str, limit: u8) {
+        self.add(what);
+        if BY_LIMIT.iter().any(|(asked, _)| *asked == what) {
+            self.add(&limited(what, limit));
+        }
     }
 
     pub fn add_length(&mut self, what: &'static str, length: usize) {
@@ -53,6 +69,9 @@ impl Tally {
         let answers = (0..=21).map(|answer| format!("answer {answer:2}"));
         let ways = WAYS.iter().map(|way| format!("unsound: {}", way.name));
         let harmless = HARMLESS.iter().map(|(name, _)| format!("sound: {name}"));
+        let by_limit = BY_LIMIT
+            .iter()
+            .flat_map(|&(what, limits)| limits.iter().map(move |&limit| limited(what, limit)));
         let lengths = LENGTHS.iter().flat_map(|&(what, longest)| {
             let counts = self.by_length(what, longest);
             let missing = (0..=longest).filter(move |&length| counts[length] == 0);
@@ -61,6 +80,7 @@ impl Tally {
         answers
             .chain(ways)
             .chain(harmless)
+            .chain(by_limit)
             .filter(|what| self.count(what) == 0)
             .chain(lengths)
             .collect()
@@ -75,6 +95,13 @@ impl Tally {
             true => ExitCode::SUCCESS,
             false => ExitCode::FAILURE,
         }
+    }
+}
+
+fn limited(what: &str, limit: u8) -> String {
+    match LIMITS.contains(&limit) {
+        true => format!("{what}, limit {limit}"),
+        false => format!("{what}, other limit"),
     }
 }
 

@@ -5,7 +5,7 @@ use host::library::{saturn_frame, saturn_power_up, saturn_tick, SaturnAgent, RUN
 use host::state;
 use peer::hex;
 use peer::module::registers::INPUTS;
-use peer::module::REPLY_ROOM;
+use peer::module::{Fixed, REPLY_ROOM};
 use peer::script::{parse, Line, Lines};
 use std::io::{self, BufWriter, Write};
 
@@ -35,10 +35,10 @@ fn main() -> io::Result<()> {
 }
 
 impl Module {
-    /// MAC 1, IID 2, VER 0.
+    /// MAC 1, IID 2, VER 0, a limit of 64 requests.
     fn power_up() -> Module {
         let mut agent = state::BLANK;
-        unsafe { saturn_power_up(&mut agent, 1, 2, 0) };
+        unsafe { saturn_power_up(&mut agent, 1, 2, 0, Fixed::DOORS.limit) };
         Module {
             agent,
             reply: [0; REPLY_ROOM],

@@ -3,12 +3,11 @@
 use super::super::speech;
 use super::stage::Stage;
 use crate::module::registers::OUT_REP;
-use crate::module::REQUESTS_MAX;
 
 pub fn full_cycle(stage: &mut Stage) {
     stage.some_mode(1);
     stage.begin_cycle();
-    for _ in 0..REQUESTS_MAX {
+    for _ in 0..stage.limit() {
         let body = match stage.random.below(4) {
             0 => stage.due_write(0x80, &[1, 2, 3]).body(),
             1 => stage.due_write(0x26, &[1]).body(),
@@ -19,7 +18,7 @@ pub fn full_cycle(stage: &mut Stage) {
     one_more(stage);
 }
 
-/// The cycle has its 64: a due one is too many, an old one a repeat, a later one out of order.
+/// The cycle is at the limit: a due one is too many, an old one a repeat, a later one out of order.
 /// A repeated sync does not make room.
 pub fn one_more(stage: &mut Stage) {
     for _ in 0..2 {
@@ -29,7 +28,8 @@ pub fn one_more(stage: &mut Stage) {
         let sync = speech::sync(stage.active(), stage.agent().cycle).body();
         stage.say(&sync);
     }
-    for distance in [0, 63, 65, 128, 255] {
+    let limit = stage.limit();
+    for distance in [0, limit - 1, limit + 1, 128, 255] {
         let (address, head) = (stage.address(), stage.head_at(distance));
         stage.say(&speech::read(address, head, 1, 0x10).body());
     }

@@ -5,7 +5,7 @@ use super::super::speech;
 use super::stage::Stage;
 use crate::frame::{Head, SidAssignment, BROADCAST};
 use crate::module::registers::{HOLD, OUT_REP, RELEASE, TID};
-use crate::module::{first_seq, Mode, REQUESTS_MAX};
+use crate::module::{first_seq, Mode};
 
 /// The address of all modules.
 pub const MODULES: u8 = 0x90;
@@ -121,9 +121,9 @@ impl Stage {
         self.sync(self.active(), cyc);
     }
 
-    /// A heard cycle that takes `room` more requests.
+    /// A heard cycle that takes `room` more requests. `room` is at most the limit.
     pub fn heard_cycle(&mut self, room: u8) {
-        if !self.agent().heard || self.agent().taken > REQUESTS_MAX - room {
+        if !self.agent().heard || self.agent().taken > self.limit() - room {
             self.begin_cycle();
         }
     }

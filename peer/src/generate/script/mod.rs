@@ -17,6 +17,7 @@ mod stage;
 mod takeover;
 mod turns;
 
+use crate::module::Fixed;
 use stage::Stage;
 
 type Scene = fn(&mut Stage);
@@ -78,7 +79,12 @@ const LONG: usize = 2000;
 
 /// A script of `count` lines from power-up.
 pub fn script(seed: u64, count: usize) -> Vec<u8> {
-    let mut stage = Stage::new(seed);
+    script_as(Fixed::DOORS, seed, count)
+}
+
+/// A script whose scenes are for a module with this fixed at power-up. It must be sound.
+pub fn script_as(fixed: Fixed, seed: u64, count: usize) -> Vec<u8> {
+    let mut stage = Stage::new(fixed, seed);
     opening::play(&mut stage);
     let mut deck = Vec::new();
     let mut once = match count >= LONG {

@@ -4,7 +4,6 @@ use super::super::sample;
 use super::floods;
 use super::stage::Stage;
 use crate::module::registers::OUT_REP;
-use crate::module::REQUESTS_MAX;
 
 /// First and last register of each span that can be written.
 const SPANS: [(u8, u8); 6] = [
@@ -83,11 +82,11 @@ fn data(stage: &mut Stage, length: usize) -> Vec<u8> {
     }
 }
 
-/// The next 64 values of 17h in one cycle, then one request too many.
+/// The next values of 17h, as many as one cycle takes, then one request too many.
 pub fn release_values(stage: &mut Stage) {
     stage.some_mode(1);
     stage.begin_cycle();
-    for _ in 0..REQUESTS_MAX {
+    for _ in 0..stage.limit() {
         let value = stage.next_of("values of 17h", &ALL_BYTES);
         let body = stage.due_write(OUT_REP, &[value]).body();
         stage.say(&body);

@@ -7,7 +7,7 @@ use super::super::random::Random;
 use super::super::sample;
 use crate::hex;
 use crate::module::registers::Registers;
-use crate::module::Agent;
+use crate::module::{Agent, Fixed};
 use crate::script::{Player, TICKS_MAX};
 use std::collections::HashMap;
 
@@ -27,11 +27,11 @@ pub struct Stage {
 }
 
 impl Stage {
-    pub fn new(seed: u64) -> Stage {
+    pub fn new(fixed: Fixed, seed: u64) -> Stage {
         Stage {
             random: Random::new(seed),
             turns: HashMap::new(),
-            player: Player::power_up(),
+            player: Player::power_up_as(fixed),
             lines: Vec::new(),
             said: Vec::new(),
         }
@@ -39,6 +39,11 @@ impl Stage {
 
     pub fn agent(&self) -> &Agent {
         &self.player.agent
+    }
+
+    /// How many requests the module takes in a cycle.
+    pub fn limit(&self) -> u8 {
+        self.agent().fixed.limit
     }
 
     pub fn registers(&self) -> &Registers {

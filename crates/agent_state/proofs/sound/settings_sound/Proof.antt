@@ -13,6 +13,9 @@ element-copy-out-tid c = search needs
 assignable-requires : tie.Need-assignable-requires
 assignable-requires c κs = search needs
 
+is-limit-requires : tie.Need-is-limit-requires
+is-limit-requires c κs = search needs
+
 element-copy-out-result : tie.Need-element-copy-out-result
 element-copy-out-result c = search needs
 
@@ -26,7 +29,7 @@ element-copy-out-result-4 : tie.Need-element-copy-out-result-4
 element-copy-out-result-4 c = search needs
 
 returns : tie.Need-returns
-returns c = settings-law _ _ (search needs)
+returns c = settings-law _ _ _ (search needs) (search needs)
 
 pub settings-sound-spec : {M : Type 1} → statement M
 settings-sound-spec =
@@ -35,6 +38,7 @@ settings-sound-spec =
     element-copy-out-release
     element-copy-out-tid
     assignable-requires
+    is-limit-requires
     element-copy-out-result
     element-copy-out-result-2
     element-copy-out-result-3
