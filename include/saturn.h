@@ -31,10 +31,10 @@
 #include <stdint.h>
 
 /* the version of this header, and of the library that it was installed with */
-#define SATURN_VERSION_MAJOR 3
+#define SATURN_VERSION_MAJOR 4
 #define SATURN_VERSION_MINOR 0
 #define SATURN_VERSION_PATCH 0
-#define SATURN_VERSION "3.0.0"
+#define SATURN_VERSION "4.0.0"
 
 #ifdef __cplusplus
 extern "C" {
@@ -45,8 +45,7 @@ typedef struct saturn_fixed {
     uint8_t limit; /* how many requests are taken in a cycle: SATURN_LIMIT_LIGHTING or SATURN_LIMIT_DOORS */
 } saturn_fixed;
 
-/* The state, field by field as in crates/rules/src/lib.rt. The last of its 304 bytes is padding, and a call may change it:
- * compare two agents field by field, not with memcmp. */
+/* The state, field by field as in crates/rules/src/lib.rt. */
 typedef struct saturn_agent {
     uint8_t regs[256]; /* the registers */
     uint32_t known[8]; /* the recorded concentrators are the first `count`; power-up puts FFFFFFh in all */
@@ -58,6 +57,7 @@ typedef struct saturn_agent {
     uint8_t taken;     /* k: requests taken in the cycle */
     uint8_t mode;      /* SATURN_RUN or SATURN_FALLBACK */
     uint8_t heard;     /* whether the cycle is heard (1) or not (0) */
+    uint8_t mark;      /* whether a sync came outside its window (1) or not (0); see SATURN_OUTSIDE_WINDOW */
     uint8_t count;     /* how many concentrators are recorded */
     saturn_fixed fixed;
 } saturn_agent;
@@ -135,7 +135,9 @@ enum {
     /* the caller */
     SATURN_UNSOUND = 19,    /* unsound state: see the main loop above */
     SATURN_REPLY_ROOM = 20, /* reply buffer under 545 bytes */
-    SATURN_HOST_INPUT = 21  /* port not 1 or 2, or inputs not 64 bytes */
+    SATURN_HOST_INPUT = 21, /* port not 1 or 2, or inputs not 64 bytes */
+    /* a concentrator */
+    SATURN_OUTSIDE_WINDOW = 22 /* a sync in RUN, outside its window: unless one is accepted, fallback when the cycle ends */
 };
 
 /* An answer in words, for logs and displays. */
@@ -164,6 +166,7 @@ static inline const char *saturn_answer_text(uint8_t answer)
     case SATURN_UNSOUND: return "unsound state";
     case SATURN_REPLY_ROOM: return "reply buffer under 545 bytes";
     case SATURN_HOST_INPUT: return "port not 1 or 2, or inputs not 64 bytes";
+    case SATURN_OUTSIDE_WINDOW: return "sync outside its window";
     default: return "not an answer";
     }
 }
@@ -174,14 +177,17 @@ static inline const char *saturn_answer_text(uint8_t answer)
  * saturn_power_up with one of these two helps. */
 void saturn_power_up(saturn_agent *agent, uint64_t mac, uint64_t iid, uint16_t ver, uint8_t limit);
 
-/* One millisecond, with the inputs: registers C0h to FFh become these 64 bytes, then e, s and, in RUN, q count on, and a limit
- * that is reached leads to fallback. Answers 0, 19 or 21 (not 64 inputs). With 19 and 21 the agent is left as it was: nothing is
- * stored, and nothing counts on, so a host that always passes a wrong length never reaches a time limit. */
+/* One millisecond, with the inputs: registers C0h to FFh become these 64 bytes, then e, s and, in RUN, q count on; a limit
+ * that is reached leads to fallback, and so does the end of the cycle in RUN with the mark set. Answers 0, 19 or 21 (not 64
+ * inputs). With 19 and 21 the agent is left as it was: nothing is stored, and nothing counts on, so a host that always passes a
+ * wrong length never reaches a time limit. */
 uint8_t saturn_tick(saturn_agent *agent, const uint8_t *inputs, size_t inputs_length);
 
 /* A body received on port 1 or 2, from the address to the FCS, still stuffed and without flags. The frame has its effect.
  * The first *sent bytes of reply are the whole reply with both flags, to be sent on both ports; the rest of reply is left
- * as it was. *sent is 0 if there is no reply. With 19, 20 and 21 agent and reply are left as they were and *sent is 0. */
+ * as it was. *sent is 0 if there is no reply. With 19, 20 and 21 agent and reply are left as they were and *sent is 0. After 22,
+ * a sync outside its window, RUN goes on: a sync that is accepted clears the mark, and if none is until a tick ends the cycle,
+ * that tick leads to fallback. */
 uint8_t saturn_frame(saturn_agent *agent, uint8_t port, const uint8_t *body, size_t body_length, uint8_t *reply,
                      size_t reply_length, uint16_t *sent);
 

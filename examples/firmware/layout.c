@@ -27,9 +27,6 @@ static struct {
 static uint8_t reply[SATURN_REPLY_ROOM_LEAST];
 static const uint8_t given[SATURN_IMAGE] = {[0] = 0xA5, [SATURN_IMAGE - 1] = 0x5A}; /* the inputs */
 
-/* the bytes of the struct before its padding; there is none between the fields */
-enum { USED = offsetof(saturn_agent, fixed) + sizeof(saturn_fixed) };
-
 static uint8_t frame(const uint8_t *body, size_t length)
 {
     uint16_t sent;
@@ -43,7 +40,7 @@ static void unsound(size_t offset, uint8_t value, const char *what)
     ((uint8_t *)&m.agent)[offset] = value;
     saturn_agent set = m.agent;
     expect(saturn_tick(&m.agent, given, sizeof given) == SATURN_UNSOUND, what);
-    expect(memcmp(&m.agent, &set, USED) == 0, "an unsound agent is left as it is");
+    expect(memcmp(&m.agent, &set, sizeof set) == 0, "an unsound agent is left as it is");
     m.agent = kept;
 }
 
@@ -92,7 +89,7 @@ int main(void)
     expect(memcmp(&m.agent.regs[SATURN_REG_INPUTS], given, sizeof given) == 0, "inputs");
     saturn_agent before = m.agent;
     expect(saturn_tick(&m.agent, given, sizeof given - 1) == SATURN_HOST_INPUT, "63 inputs");
-    expect(memcmp(&m.agent, &before, USED) == 0, "a tick with 63 inputs leaves the agent as it is");
+    expect(memcmp(&m.agent, &before, sizeof before) == 0, "a tick with 63 inputs leaves the agent as it is");
 
     expect(frame(TID_ASSIGNMENT, sizeof TID_ASSIGNMENT) == 0 && m.agent.regs[SATURN_REG_TID] == 0x05, "TID");
     expect(frame(SID_BY_A, sizeof SID_BY_A) == 0 && m.agent.count == 1 && m.agent.known[0] == 7, "count and known");
@@ -102,9 +99,12 @@ int main(void)
     for (unsigned i = 0; i < 300; i++)
         saturn_tick(&m.agent, given, sizeof given);
     expect(m.agent.idle == 300 && m.agent.silence == 300, "idle");
+    expect(frame(SID_BY_B, sizeof SID_BY_B) == 0 && m.agent.mark == 0, "no mark");
+    expect(frame(SYNC_B_12, sizeof SYNC_B_12) == SATURN_OUTSIDE_WINDOW && m.agent.mark == 1, "mark");
 
     unsound(offsetof(saturn_agent, mode), 7, "mode is where the library has it");
     unsound(offsetof(saturn_agent, heard), 7, "heard is where the library has it");
+    unsound(offsetof(saturn_agent, mark), 7, "mark is where the library has it");
     unsound(offsetof(saturn_agent, count), 9, "count is where the library has it");
     unsound(offsetof(saturn_agent, elapsed), 255, "elapsed is where the library has it");
     unsound(offsetof(saturn_agent, taken), SATURN_LIMIT_DOORS + 1, "taken is where the library has it");

@@ -23,6 +23,7 @@ pub enum Refusal {
     Unsound = 19,
     Room = 20,
     Host = 21,
+    Window = 22,
 }
 
 impl Refusal {

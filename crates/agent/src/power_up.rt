@@ -22,6 +22,7 @@ use agent_state::registers::put_low;
 use agent_state::state::IN_FALLBACK;
 use agent_state::state::NOBODY;
 use agent_state::state::UNHEARD;
+use agent_state::state::UNMARKED;
 use agent_state::state::WITHHELD;
 use agent_state::tid::UNASSIGNED;
 use rules::Agent;
@@ -65,7 +66,7 @@ fn power_regs(mac: u64, iid: u64, ver: u16) -> [u8; 256]
     regs
 }
 
-// Fallback, unheard, counters 0, no source; with the limit of requests.
+// Fallback, unheard, no mark, counters 0, no source; with the limit of requests.
 pub fn power_up(mac: u64, iid: u64, ver: u16, limit: u8) -> Agent
     ensures { λ r. ⌜ r ≡ powerUp mac iid ver (fixedBy limit) ⌝ }
 {
@@ -81,6 +82,7 @@ pub fn power_up(mac: u64, iid: u64, ver: u16, limit: u8) -> Agent
         taken: 0,
         mode: IN_FALLBACK,
         heard: UNHEARD,
+        mark: UNMARKED,
         count: 0,
         fixed: Fixed { limit },
     }

@@ -8,10 +8,11 @@ use agent_state::registers::STATUT;
 use agent_state::registers::fill;
 use agent_state::state::IN_FALLBACK;
 use agent_state::state::IN_RUN;
+use agent_state::state::UNMARKED;
 use agent_state::state::WITHHELD;
 use rules::Agent;
 
-// Sets 80h to BFh to 00h, OUT_REP to AAh, q to 0 and STATUT bit 7.
+// Sets 80h to BFh to 00h, OUT_REP to AAh, q to 0 and STATUT bit 7, and clears the mark.
 pub fn enter_fallback(a: Agent) -> Agent
     ensures { λ r. ⌜ r ≡ enterFallback a ⌝ }
 {
@@ -21,6 +22,7 @@ pub fn enter_fallback(a: Agent) -> Agent
     fill(&mut next.regs, OUTPUTS, IMAGE, 0);
     next.mode = IN_FALLBACK;
     next.idle = 0;
+    next.mark = UNMARKED;
     next
 }
 

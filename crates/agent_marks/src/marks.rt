@@ -1,9 +1,10 @@
-// What a refusal marks and counts: STATUT bits, and counters that stop at 255.
+// What a refusal marks and counts: STATUT bits, counters that stop at 255, and the mark of 22.
 ghost use mathlib.Core.Path.{_≡_};
-ghost use Rattle.rules.specs.Marks.{counter, lineMarked, formatMarked, sequenceMarked};
+ghost use Rattle.rules.specs.Marks.{counter, lineMarked, formatMarked, sequenceMarked, windowMarked};
 use agent_state::registers::CPT_FOR;
 use agent_state::registers::CPT_SEQ;
 use agent_state::registers::STATUT;
+use agent_state::state::IS_MARKED;
 use rules::Agent;
 
 // One more, up to 255.
@@ -40,5 +41,15 @@ pub fn sequence_marked(a: Agent) -> Agent
     let mut next = a;
     next.regs[STATUT] = a.regs[STATUT] | 0x02;
     next.regs[CPT_SEQ] = count;
+    next
+}
+
+// 22: bit 1, and the mark.
+pub fn window_marked(a: Agent) -> Agent
+    ensures { λ r. ⌜ r ≡ windowMarked a ⌝ }
+{
+    let mut next = a;
+    next.regs[STATUT] = a.regs[STATUT] | 0x02;
+    next.mark = IS_MARKED;
     next
 }

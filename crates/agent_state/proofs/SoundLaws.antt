@@ -14,7 +14,7 @@ use Rattle.rules.specs.Fixed.{isLimit, limitOf}
 use Rattle.rules.specs.Registers.{typAt, tidAt, outRep, statut, outputsAt}
 use Rattle.rules.specs.Sound.{settingsSound, sourcesSound, countersSound, outputsZero, runSound, fallbackSound, sound}
 use Rattle.rules.specs.Sources.{distinct, below24, isRecorded, sidOf}
-use Rattle.rules.specs.State.{inRun, inFallback, isHeard, unheard, nobody, reg, tOf, nOf, mOf}
+use Rattle.rules.specs.State.{inRun, inFallback, isHeard, unheard, isMarked, unmarked, nobody, reg, tOf, nOf, mOf}
 use Rattle.rules.specs.declared.Agent.{Agent}
 use Rattle.rules.proofs.SoundParts.{fits-is}
 
@@ -35,7 +35,8 @@ unfolding sourcesSound
 sources-many a h = rw (lt-leb (a .count) 8 h)
 
 pub counters-law : (a : Agent) (known : Bool) → known ≡ isRecorded a (a .last)
-    → (leb (a .taken) (limitOf a) && leb (a .elapsed) 254 && (known || (eqb (a .last) nobody && eqb (a .heard) unheard)) && (eqb (a .heard) isHeard || eqb (a .heard) unheard)) ≡ countersSound a
+    → (leb (a .taken) (limitOf a) && leb (a .elapsed) 254 && (known || (eqb (a .last) nobody && eqb (a .heard) unheard)) && (eqb (a .heard) isHeard || eqb (a .heard) unheard)
+    && (eqb (a .mark) isMarked || eqb (a .mark) unmarked)) ≡ countersSound a
 unfolding countersSound
 counters-law a known p = rw p
 

@@ -33,3 +33,5 @@ pub const UNSOUND: u8 = 19;
 pub const REPLY_ROOM: u8 = 20;
 
 pub const HOST_INPUT: u8 = 21;
+
+pub const OUTSIDE_WINDOW: u8 = 22;

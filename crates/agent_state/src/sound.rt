@@ -20,9 +20,11 @@ use crate::sources::sid_of;
 use crate::state::IN_FALLBACK;
 use crate::state::IN_RUN;
 use crate::state::IS_HEARD;
+use crate::state::IS_MARKED;
 use crate::state::NOBODY;
 use crate::state::RELEASED;
 use crate::state::UNHEARD;
+use crate::state::UNMARKED;
 use crate::state::WITHHELD;
 use crate::tid::UNASSIGNED;
 use crate::tid::assignable;
@@ -60,8 +62,8 @@ fn sources_sound(a: Agent) -> bool
     fit & ((a.count == 0) == (sid == NOBODY))
 }
 
-// k is at most the limit, e at most 254; the last source is recorded, or there is none and the cycle is unheard; heard has one
-// of its two values.
+// k is at most the limit, e at most 254; the last source is recorded, or there is none and the cycle is unheard; heard and the
+// mark each have one of their two values.
 fn counters_sound(a: Agent) -> bool
     ensures { λ r. ⌜ r ≡ countersSound a ⌝ }
 {
@@ -70,6 +72,7 @@ fn counters_sound(a: Agent) -> bool
         & (a.elapsed <= 254)
         & (known | ((a.last == NOBODY) & (a.heard == UNHEARD)))
         & ((a.heard == IS_HEARD) | (a.heard == UNHEARD))
+        & ((a.mark == IS_MARKED) | (a.mark == UNMARKED))
 }
 
 // The outputs are 0.

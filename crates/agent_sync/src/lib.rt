@@ -1,23 +1,28 @@
-// What a sync does: a repeat, one whose cycle does not fit, or an accepted one, which may lead to RUN.
+// What a sync does: a repeat, one whose cycle does not fit, one outside its window, or an accepted one, which may lead to RUN.
 // One function for each rule, as in `rules`. Only the crates of the agent call these.
 ghost use mathlib.Core.Path.{_≡_};
 ghost use Prim.Native.Nat.{_^_, _<_};
 ghost use Rattle.rules.specs.Sync.{isRepeat, cycleFits, heardSync, synced, onSync};
+ghost use Rattle.rules.specs.Window.{width, inWindow};
 ghost use Rattle.agent_replies.specs.Fitting.{Fitting};
 use agent_marks::fallback::enter_fallback;
 use agent_marks::fallback::enter_run;
 use agent_marks::marks::sequence_marked;
+use agent_marks::marks::window_marked;
 use agent_replies::replies::does;
 use agent_replies::replies::sync_reply;
 use agent_state::answers::CYCLE;
+use agent_state::answers::OUTSIDE_WINDOW;
 use agent_state::answers::REPEAT;
 use agent_state::answers::SOURCE;
 use agent_state::registers::OUT_REP;
+use agent_state::registers::TCYC;
 use agent_state::sources::is_recorded;
 use agent_state::state::IN_RUN;
 use agent_state::state::IS_HEARD;
 use agent_state::state::NOBODY;
 use agent_state::state::RELEASED;
+use agent_state::state::UNMARKED;
 use rules::Agent;
 use rules::Deed;
 
@@ -36,7 +41,28 @@ fn cycle_fits(a: Agent, cyc: u8) -> bool
     (cyc == next) | (!(a.heard == IS_HEARD) & (cyc == a.cycle))
 }
 
-// Accepted: c = CYC, heard, e = s = k = 0.
+// w: t / 8 rounded down, at least 1.
+fn width(t: u8) -> u8
+    ensures { λ r. ⌜ r ≡ width t ⌝ }
+{
+    let eighth = t / 8;
+    if eighth < 1 { 1 } else { eighth }
+}
+
+// CYC = c + 1 needs e of at least t − w; CYC = c needs e of at most w.
+fn in_window(a: Agent, cyc: u8) -> bool
+    ensures { λ r. ⌜ r ≡ inWindow a cyc ⌝ }
+{
+    let t = a.regs[TCYC];
+    let w = width(t);
+    let next = std::num::wrapping_add_u8(a.cycle, 1);
+    if cyc == next {
+        return (t as u16) <= (a.elapsed as u16) + (w as u16);
+    }
+    a.elapsed <= w
+}
+
+// Accepted: c = CYC, heard, e = s = k = 0, no mark.
 fn heard_sync(src: u32, cyc: u8, a: Agent) -> Agent
     ensures { λ r. ⌜ r ≡ heardSync src cyc a ⌝ }
 {
@@ -47,6 +73,7 @@ fn heard_sync(src: u32, cyc: u8, a: Agent) -> Agent
     next.taken = 0;
     next.last = src;
     next.silence = 0;
+    next.mark = UNMARKED;
     next
 }
 
@@ -62,7 +89,7 @@ fn synced(src: u32, cyc: u8, a: Agent) -> Agent
     next
 }
 
-// 10, then 13 before 12; 12 comes in RUN only, and leads to fallback.
+// 10, then 13 before 12, then 22; 12 and 22 come in RUN only; 12 leads to fallback.
 pub fn on_sync(port: u8, a: Agent, src: u32, cyc: u8) -> Deed
     requires { ⌜ src < 2 ^ 24 ⌝ }
     ensures { λ r. ⌜ (r ≡ onSync port a src cyc) × Fitting (r .reply) ⌝ }
@@ -76,9 +103,14 @@ pub fn on_sync(port: u8, a: Agent, src: u32, cyc: u8) -> Deed
         return does(REPEAT, a);
     }
     let fits = cycle_fits(a, cyc);
-    let missed = (a.mode == IN_RUN) & !fits;
-    if missed {
+    let wrong = (a.mode == IN_RUN) & !fits;
+    if wrong {
         return does(CYCLE, enter_fallback(sequence_marked(a)));
+    }
+    let timely = in_window(a, cyc);
+    let missed = (a.mode == IN_RUN) & !timely;
+    if missed {
+        return does(OUTSIDE_WINDOW, window_marked(a));
     }
     sync_reply(port, synced(src, cyc, a), src, cyc)
 }

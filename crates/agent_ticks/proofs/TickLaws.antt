@@ -17,8 +17,8 @@ use Rattle.base.proofs.Fills.{fill-turn}
 use Rattle.agent_ticks.specs.Limited.{Shows, fallMarked}
 use Rattle.rules.specs.Fallback.{enterFallback}
 use Rattle.rules.specs.Registers.{outputsAt, image}
-use Rattle.rules.specs.State.{inRun, inFallback, unheard, running, tOf, withRegs, withMode, withClock, withCycle}
-use Rattle.rules.specs.Tick.{silenceEnd, counted, syncLimit, commandLimit, limited, cycleEnded, ticked}
+use Rattle.rules.specs.State.{inRun, inFallback, unheard, unmarked, running, tOf, withRegs, withMode, withMark, withClock, withCycle}
+use Rattle.rules.specs.Tick.{silenceEnd, counted, syncLimit, commandLimit, windowLimit, limited, cycleEnded, ticked}
 use Rattle.rules.specs.declared.Agent.{Agent}
 
 pub count-law : (a : Agent) (s q : ℕ) → s ≡ choose (ltb (a .silence) silenceEnd) (a .silence + 1) silenceEnd → q ≡ choose (running a) (a .idle + 1) (a .idle) → withClock (a .elapsed + 1) s q a ≡ counted a
@@ -76,15 +76,22 @@ zeros-stay (suc n) i r z =
     ap (λ (l : List ℕ). sets l (suc i) (replicate n 0)) here ∙ zeros-stay n (suc i) r there
 
 -- at a limit
-at-limit : (a : Agent) → (syncLimit a || commandLimit a) ≡ true → limited a ≡ enterFallback a
+abbrev pub atLimit : Agent → Bool
+atLimit a = syncLimit a || commandLimit a || windowLimit a
+
+at-limit : (a : Agent) → atLimit a ≡ true → limited a ≡ enterFallback a
 unfolding limited
 at-limit a e =
     by-test (λ (b : Agent). b ≡ enterFallback a) (syncLimit a) (λ h. refl)
-    (λ h. choose-true _ _ (or-cases (syncLimit a) (commandLimit a) e (λ t. never (sym h ∙ t)) (λ t. t)))
+    (λ h. by-test (λ (b : Agent). b ≡ enterFallback a) (commandLimit a) (λ k. refl)
+    (λ k. choose-true _ _ (or-cases (syncLimit a || commandLimit a) (windowLimit a) e (λ t. never (sym (ap₂ _||_ h k) ∙ t)) (λ t. t))))
 
-below-limits : (a : Agent) → (syncLimit a || commandLimit a) ≡ false → limited a ≡ a
+below-limits : (a : Agent) → atLimit a ≡ false → limited a ≡ a
 unfolding limited
-below-limits a e = choose-false _ _ (or-left-false (syncLimit a) _ e) ∙ choose-false _ _ (or-right-false (syncLimit a) _ e)
+below-limits a e =
+    let both = or-left-false (syncLimit a || commandLimit a) (windowLimit a) e in
+    choose-false _ _ (or-left-false (syncLimit a) (commandLimit a) both) ∙ choose-false _ _ (or-right-false (syncLimit a) (commandLimit a) both)
+    ∙ choose-false _ _ (or-right-false (syncLimit a || commandLimit a) (windowLimit a) e)
 
 -- what the mask leaves of the registers
 abbrev cold : List ℕ → List ℕ
@@ -110,28 +117,32 @@ pub mode-is : (falls : Bool) (before after : ℕ) (r : List ℕ) → after ≡ c
 mode-is true before after r e s = inr e
 mode-is false before after r e s = ⊎-elim (λ m. inl (e ∙ m)) (λ m. inr (e ∙ m .0)) s
 
-module _ (a : Agent) (r q : List ℕ) (mode idle : ℕ) where
-  fell : (syncLimit a || commandLimit a) ≡ true → r ≡ fallMarked (a .regs) → mode ≡ inFallback → idle ≡ 0 → Masked mode r q
-      → withMode mode idle (withRegs q a) ≡ limited a
+-- mode, q, the mark and the registers afterwards
+abbrev afterwards : Agent → ℕ → ℕ → ℕ → List ℕ → Agent
+afterwards a mode idle mark q = withMark mark (withMode mode idle (withRegs q a))
+
+module _ (a : Agent) (r q : List ℕ) (mode idle mark : ℕ) where
+  fell : atLimit a ≡ true → r ≡ fallMarked (a .regs) → mode ≡ inFallback → idle ≡ 0 → mark ≡ unmarked → Masked mode r q
+      → afterwards a mode idle mark q ≡ limited a
   unfolding enterFallback
-  fell e f m i k =
-      ap₂ (λ (x y : ℕ). withMode x y (withRegs q a)) m i
-      ∙ ap (λ (l : List ℕ). withMode inFallback 0 (withRegs l a)) (in-fallback mode r q m k ∙ ap cold f)
+  fell e f m i x k =
+      ap₂ (λ (y z : ℕ). afterwards a y z mark q) m i
+      ∙ ap₂ (λ (y : ℕ) (l : List ℕ). afterwards a inFallback 0 y l) x (in-fallback mode r q m k ∙ ap cold f)
       ∙ sym (at-limit a e)
 
-  stays : (syncLimit a || commandLimit a) ≡ false → r ≡ a .regs → mode ≡ a .mode → idle ≡ a .idle → Shows (a .mode) (a .regs) → Masked mode r q
-      → withMode mode idle (withRegs q a) ≡ limited a
-  stays e f m i s k =
+  stays : atLimit a ≡ false → r ≡ a .regs → mode ≡ a .mode → idle ≡ a .idle → mark ≡ a .mark → Shows (a .mode) (a .regs) → Masked mode r q
+      → afterwards a mode idle mark q ≡ limited a
+  stays e f m i x s k =
       let same : q ≡ a .regs =
       ⊎-elim (λ h. in-run mode r q (m ∙ h) k ∙ f)
       (λ h. in-fallback mode r q (m ∙ h .0) k ∙ ap cold f ∙ zeros-stay image outputsAt (a .regs) (h .1)) s in
-      ap₂ (λ (x y : ℕ). withMode x y (withRegs q a)) m i ∙ ap (λ (l : List ℕ). withRegs l a) same ∙ sym (below-limits a e)
+      ap₂ (λ (y z : ℕ). afterwards a y z mark q) m i ∙ ap₂ (λ (y : ℕ) (l : List ℕ). withMark y (withRegs l a)) x same ∙ sym (below-limits a e)
 
-pub limit-law : (a : Agent) (r q : List ℕ) (falls : Bool) (mode idle : ℕ) → falls ≡ (syncLimit a || commandLimit a) → Shows (a .mode) (a .regs)
-    → mode ≡ choose falls inFallback (a .mode) → idle ≡ choose falls 0 (a .idle) → r ≡ choose falls (fallMarked (a .regs)) (a .regs) → Masked mode r q
-    → withMode mode idle (withRegs q a) ≡ limited a
-limit-law a r q true mode idle d s m i f k = fell a r q mode idle (sym d) f m i k
-limit-law a r q false mode idle d s m i f k = stays a r q mode idle (sym d) f m i s k
+pub limit-law : (a : Agent) (r q : List ℕ) (falls : Bool) (mode idle mark : ℕ) → falls ≡ atLimit a → Shows (a .mode) (a .regs)
+    → mode ≡ choose falls inFallback (a .mode) → idle ≡ choose falls 0 (a .idle) → mark ≡ choose falls unmarked (a .mark)
+    → r ≡ choose falls (fallMarked (a .regs)) (a .regs) → Masked mode r q → afterwards a mode idle mark q ≡ limited a
+limit-law a r q true mode idle mark d s m i x f k = fell a r q mode idle mark (sym d) f m i x k
+limit-law a r q false mode idle mark d s m i x f k = stays a r q mode idle mark (sym d) f m i x s k
 
 -- the cycle goes on, and ends
 pub cycle-on : (a : Agent) → a .elapsed < tOf a → a ≡ cycleEnded a

@@ -1,4 +1,4 @@
-// Tick: the counters, then the two limits, then the end of the cycle.
+// Tick: the counters, then the three limits, then the end of the cycle.
 ghost use mathlib.Core.Logic.{_⊎_};
 ghost use mathlib.Core.Path.{_≡_};
 ghost use Prim.Native.Nat.{_+_, _<_};
@@ -8,8 +8,8 @@ ghost use lib.Seq.{sets};
 ghost use Rattle.agent_ticks.specs.Limited.{Shows, fallMarked};
 ghost use Rattle.base.specs.Choice.{choose};
 ghost use Rattle.rules.specs.Registers.{outputsAt, image};
-ghost use Rattle.rules.specs.State.{inRun, inFallback};
-ghost use Rattle.rules.specs.Tick.{counted, limited, cycleEnded, ticked, silenceEnd, syncLimit, commandLimit};
+ghost use Rattle.rules.specs.State.{inRun, inFallback, unmarked};
+ghost use Rattle.rules.specs.Tick.{counted, limited, cycleEnded, ticked, silenceEnd, syncLimit, commandLimit, windowLimit};
 use agent_state::registers::CNF_CYC;
 use agent_state::registers::CNF_REP;
 use agent_state::registers::IMAGE;
@@ -20,7 +20,9 @@ use agent_state::registers::TCYC;
 use agent_state::registers::product;
 use agent_state::state::IN_FALLBACK;
 use agent_state::state::IN_RUN;
+use agent_state::state::IS_MARKED;
 use agent_state::state::UNHEARD;
+use agent_state::state::UNMARKED;
 use agent_state::state::WITHHELD;
 use rules::Agent;
 
@@ -70,6 +72,13 @@ fn at_command_limit(a: Agent) -> bool
     (a.mode == IN_RUN) & (most <= a.idle)
 }
 
+// In RUN with the mark set, e is at least t: the clock ends the cycle.
+fn at_window_limit(a: Agent) -> bool
+    ensures { λ r. ⌜ r ≡ windowLimit a ⌝ }
+{
+    (a.mode == IN_RUN) & (a.mark == IS_MARKED) & (a.regs[TCYC] <= a.elapsed)
+}
+
 // The mode, or fallback if the module falls.
 fn mode_after(falls: bool, mode: u8) -> u8
     ensures { λ r. ⌜ r ≡ choose falls inFallback mode ⌝ }
@@ -82,6 +91,13 @@ fn idle_after(falls: bool, q: u16) -> u16
     ensures { λ r. ⌜ r ≡ choose falls 0 q ⌝ }
 {
     if falls { 0 } else { q }
+}
+
+// The mark, or none if the module falls.
+fn mark_after(falls: bool, mark: u8) -> u8
+    ensures { λ r. ⌜ r ≡ choose falls unmarked mark ⌝ }
+{
+    if falls { UNMARKED } else { mark }
 }
 
 // STATUT bit 7 and OUT_REP AAh if the module falls.
@@ -117,21 +133,24 @@ fn mask_outputs(regs: &mut [u8; 256], mode: u8)
     }
 }
 
-// Fallback at the sync limit, in either mode, or else at the command limit.
+// Fallback at the sync limit, in either mode, or else at the command limit, or else at that of the window.
 fn limit(a: Agent) -> Agent
     requires { ⌜ Shows (a .mode) (a .regs) ⌝ }
     ensures { λ r. ⌜ r ≡ limited a ⌝ }
 {
     let sync = at_sync_limit(a);
     let command = at_command_limit(a);
-    let falls = sync | command;
+    let window = at_window_limit(a);
+    let falls = sync | command | window;
     let mode = mode_after(falls, a.mode);
     let idle = idle_after(falls, a.idle);
+    let mark = mark_after(falls, a.mark);
     let mut next = a;
     mark_fall(&mut next.regs, falls);
     mask_outputs(&mut next.regs, mode);
     next.mode = mode;
     next.idle = idle;
+    next.mark = mark;
     next
 }
 

@@ -17,7 +17,7 @@ use Rattle.rules.specs.Registers.{outRep, statut, outputsAt, inputsAt, image}
 use Rattle.rules.specs.Replies.{Outcome}
 use Rattle.rules.specs.Sound.{sound}
 use Rattle.rules.specs.State.{reg, tOf, withRegs}
-use Rattle.rules.specs.Tick.{counted, syncLimit, commandLimit, limited, cycleEnded, ticked}
+use Rattle.rules.specs.Tick.{counted, syncLimit, commandLimit, windowLimit, limited, cycleEnded, ticked}
 use Rattle.rules.specs.declared.Agent.{Agent}
 use Rattle.bench.specs.BusCalls.{after, inputs, silent}
 
@@ -58,7 +58,8 @@ held-fallen a e =
 held-limited : (a : Agent) → Held a → Held (limited a)
 unfolding limited
 held-limited a e =
-    by-test Held (syncLimit a) (λ h. held-fallen a e) (λ h. by-test Held (commandLimit a) (λ k. held-fallen a e) (λ k. e))
+    by-test Held (syncLimit a) (λ h. held-fallen a e)
+    (λ h. by-test Held (commandLimit a) (λ k. held-fallen a e) (λ k. by-test Held (windowLimit a) (λ w. held-fallen a e) (λ w. e)))
 
 held-ticked : (a : Agent) → Held a → Held (ticked a)
 unfolding ticked cycleEnded counted

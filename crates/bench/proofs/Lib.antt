@@ -6,3 +6,4 @@ pub mod RunCases
 pub mod Table
 pub mod HeldInputs
 pub mod Journeyed
+pub mod Windowed

@@ -21,6 +21,7 @@ use Rattle.rules.specs.Sound.{settingsSound, sourcesSound, countersSound, outpu
 use Rattle.rules.specs.Sources.{holds, distinct, below24, isRecorded, sidOf}
 use Rattle.rules.specs.Sync.{cycleFits, heardSync, synced, onSync}
 use Rattle.rules.specs.Tick.{counted, limited, cycleEnded, ticked}
+use Rattle.rules.specs.Window.{width, inWindow}
 use Rattle.rules.specs.Writes.{spanAt, spanOf, onWrite}
 use Rattle.rules.specs.State.{withTaken}
 use Rattle.rules.specs.declared.Agent.{Agent}
@@ -63,7 +64,7 @@ timely-then calls =
     ∙ ap (after calls) (on-time 4 0x05 (omega arith) (afterPrelude 0x04 0x05) ∙ ap (timely 4 0x05) start-05)
 
 pub commands-49 : Says′ p10
-unfolding tickCall withInputs ticked counted limited cycleEnded enterFallback settingsSound sourcesSound countersSound outputsZero runSound fallbackSound sound fits holds distinct below24 isRecorded sidOf lowNumber powerRegs lowBytes sent sendFrame onSync syncReply synced heardSync cycleFits enterRun
+unfolding tickCall withInputs ticked counted limited cycleEnded enterFallback settingsSound sourcesSound countersSound outputsZero runSound fallbackSound sound fits holds distinct below24 isRecorded sidOf lowNumber powerRegs lowBytes sent sendFrame onSync syncReply synced heardSync cycleFits inWindow width enterRun
 commands-49 =
     (ap (λ (a : Agent). a .mode) (timely-then (silent 9)) ∙ refl, ap (λ (a : Agent). a .mode) (timely-then (silent 10)) ∙ refl)
 
@@ -72,7 +73,7 @@ nearly : after (silent 9) (afterPrelude 0xFE 0xFF) ≡ after (silent 9) (ready d
 nearly = ap (after (silent 9)) start-FF
 
 pub wraps : Says′ p11
-unfolding tickCall withInputs ticked counted limited cycleEnded enterFallback settingsSound sourcesSound countersSound outputsZero runSound fallbackSound sound fits holds distinct below24 isRecorded sidOf lowNumber powerRegs lowBytes sent sendFrame onSync syncReply synced heardSync cycleFits enterRun sequenceMarked
+unfolding tickCall withInputs ticked counted limited cycleEnded enterFallback settingsSound sourcesSound countersSound outputsZero runSound fallbackSound sound fits holds distinct below24 isRecorded sidOf lowNumber powerRegs lowBytes sent sendFrame onSync syncReply synced heardSync cycleFits inWindow width enterRun sequenceMarked
 wraps = (
   subst (InRun 0xFF 9) (sym nearly) record { sound-is = refl; run = refl; t = refl; n = refl; m = refl; heard = refl; cyc = refl; e-is = refl },
   answer-at (sync-lays 0x00 (omega arith)) nearly ∙ refl,

@@ -24,7 +24,7 @@ use Rattle.rules.specs.Replies.{Outcome, outcome, does, syncReply, acknowledges
 use Rattle.rules.specs.Requests.{distance, writes}
 use Rattle.rules.specs.Sound.{settingsSound, sourcesSound, countersSound, outputsZero, runSound, fallbackSound, sound}
 use Rattle.rules.specs.Sources.{holds, distinct, below24, isRecorded, recorded, sidOf}
-use Rattle.rules.specs.State.{inRun, inFallback, isHeard, unheard, nobody}
+use Rattle.rules.specs.State.{inRun, inFallback, isHeard, unheard, unmarked, nobody}
 use Rattle.rules.specs.Sync.{heardSync, synced, onSync}
 use Rattle.rules.specs.Writes.{spanAt, spanOf, onWrite}
 use Rattle.rules.specs.declared.Agent.{Agent}
@@ -62,6 +62,7 @@ staged limit regs last c k mode heard = record {
   taken = k;
   mode = mode;
   heard = heard;
+  mark = unmarked;
   count = 1;
   fixed = fixedBy limit;
 }

@@ -1,3 +1,4 @@
 pub mod BusCalls
 pub mod Journey
+pub mod Windows
 pub mod Cases

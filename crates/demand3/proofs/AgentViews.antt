@@ -12,14 +12,14 @@ use lib.Seq.{sets, length-sets}
 use Rattle.base.proofs.Choosing.{and-left, and-right}
 use Rattle.base.proofs.Stored.{stored-in}
 use Rattle.rules.specs.Fallback.{released, withheld, enterFallback, enterRun}
-use Rattle.rules.specs.Marks.{counter}
+use Rattle.rules.specs.Marks.{counter, windowMarked}
 use Rattle.rules.specs.Registers.{sidAt, outRep, tcyc, statut, cnfRep, cnfCyc, outputsAt, image, lowBytes}
 use Rattle.rules.specs.Sources.{recorded}
 use Rattle.rules.specs.State.{reg, tOf, nOf, mOf, withIdle, store, storeAll}
 use Rattle.rules.specs.declared.Agent.{Agent}
 use Rattle.rules.proofs.MarkSteps.{Marks, none, counts}
 use Rattle.rules.proofs.LowBytes.{low-stored, low-same}
-use Rattle.demand3.proofs.Effects.{commanded, fallen, runs, limits, releases, outputs, named}
+use Rattle.demand3.proofs.Effects.{commanded, fallen, misses, runs, limits, releases, outputs, named}
 use Rattle.demand3.proofs.RegisterViews.{Apart, apart-same, apart-status, apart-middle}
 use Rattle.demand3.proofs.StoredPlaces.{stored-outside, stored-choice}
 use Rattle.demand3.proofs.Views.{RegisterView, View, registersOf, viewOf, SameRegisters, Agree}
@@ -27,20 +27,21 @@ use Rattle.demand3.proofs.Views.{RegisterView, View, registersOf, viewO
 -- ---- what agrees
 
 -- views that differ at most in what the registers show
-by-registers : {v w : View} → v .mode ≡ w .mode → v .assigned ≡ w .assigned → v .cycle ≡ w .cycle → v .clocks ≡ w .clocks
+by-registers : {v w : View} → v .mode ≡ w .mode → v .assigned ≡ w .assigned → v .mark ≡ w .mark → v .cycle ≡ w .cycle → v .clocks ≡ w .clocks
     → SameRegisters (v .registers) (w .registers) → Agree v w
-by-registers m a y x r = record { mode = m; assigned = a; registers = r; cycle = y; clocks = x }
+by-registers m a k y x r = record { mode = m; assigned = a; mark = k; registers = r; cycle = y; clocks = x }
 
 same-refl : (r : RegisterView) → SameRegisters r r
 same-refl r = record { rep = refl; t = refl; n = refl; m = refl; out = λ i h. refl; sid = refl }
 
 pub agree-refl : (v : View) → Agree v v
-agree-refl v = by-registers refl refl refl refl (same-refl (v .registers))
+agree-refl v = by-registers refl refl refl refl refl (same-refl (v .registers))
 
 pub agree-trans : {u v w : View} → Agree u v → Agree v w → Agree u w
 agree-trans x y = record {
   mode = x .mode ∙ y .mode;
   assigned = x .assigned ∙ y .assigned;
+  mark = x .mark ∙ y .mark;
   registers = record {
     rep = x .registers .rep ∙ y .registers .rep;
     t = x .registers .t ∙ y .registers .t;
@@ -55,7 +56,7 @@ agree-trans x y = record {
 
 -- ---- stores that do not show
 pub apart-view : (i : ℕ) (xs : List ℕ) (a : Agent) → Apart i (length xs) → Agree (viewOf (storeAll i xs a)) (viewOf a)
-apart-view i xs a h = by-registers refl refl refl refl (apart-same (a .regs) i xs h)
+apart-view i xs a h = by-registers refl refl refl refl refl (apart-same (a .regs) i xs h)
 
 pub status-view : (x : ℕ) (a : Agent) → Agree (viewOf (store statut x a)) (viewOf a)
 status-view x a = apart-view statut (x ∷ []) a apart-status
@@ -88,7 +89,7 @@ fallback-view a size =
     let same : SameRegisters (registersOf s) (registersOf r) = apart-same r statut (bitOr (reg a statut) 0x80 ∷ []) apart-status in
     let before : (j : ℕ) → j < outputsAt → getD (sets u outputsAt zeros) j 0 ≡ getD u j 0 = λ j h. stored-outside u outputsAt zeros j (λ p q. omega arith) in
     let other : (j : ℕ) → (j ≡ outRep → ⊥) → getD u j 0 ≡ getD s j 0 = λ j h. stored-outside s outRep (withheld ∷ []) j (λ p q. h (omega arith)) in
-    by-registers refl refl refl refl (record {
+    by-registers refl refl refl refl refl (record {
       rep = before outRep (omega arith) ∙ stored-in s outRep (withheld ∷ []) outRep (omega arith) (omega arith) (omega arith);
       t = before tcyc (omega arith) ∙ other tcyc (λ e. omega arith) ∙ same .t;
       n = before cnfCyc (omega arith) ∙ other cnfCyc (λ e. omega arith) ∙ same .n;
@@ -102,6 +103,7 @@ fallen-agree : {v w : View} → Agree v w → Agree (fallen v) (fallen w)
 fallen-agree e = record {
   mode = refl;
   assigned = e .assigned;
+  mark = refl;
   registers = record { rep = refl; t = e .registers .t; n = e .registers .n; m = e .registers .m; out = λ i h. refl; sid = e .registers .sid };
   cycle = e .cycle;
   clocks = ap commanded (e .clocks);
@@ -110,9 +112,14 @@ fallen-agree e = record {
 pub fallen-view : (a : Agent) (v : View) → length (a .regs) ≡ 256 → Agree (viewOf a) v → Agree (viewOf (enterFallback a)) (fallen v)
 fallen-view a v size e = agree-trans (fallback-view a size) (fallen-agree e)
 
+-- a sync outside its window
+pub missed-view : (a : Agent) → Agree (viewOf (windowMarked a)) (misses (viewOf a))
+unfolding windowMarked
+missed-view a = by-registers refl refl refl refl refl (status-view (bitOr (reg a statut) 0x02) a .registers)
+
 pub run-view : (a : Agent) → Agree (viewOf (enterRun a)) (runs (viewOf a))
 unfolding enterRun
-run-view a = by-registers refl refl refl refl (status-view (bitAnd (reg a statut) 0x7F) a .registers)
+run-view a = by-registers refl refl refl refl refl (status-view (bitAnd (reg a statut) 0x7F) a .registers)
 
 -- ---- writes that show
 pub release-view : (a : Agent) (i : ℕ) (xs : List ℕ) → length (a .regs) ≡ 256 → i ≡ outRep → length xs ≡ 1 → getD xs 0 0 ≡ released
@@ -120,7 +127,7 @@ pub release-view : (a : Agent) (i : ℕ) (xs : List ℕ) → length (a .regs) �
 release-view a i xs size at one e =
     let r : List ℕ = a .regs in
     let other : (j : ℕ) → (j ≡ outRep → ⊥) → getD (sets r i xs) j 0 ≡ getD r j 0 = λ j h. stored-outside r i xs j (λ p q. h (omega arith)) in
-    by-registers refl refl refl refl (record {
+    by-registers refl refl refl refl refl (record {
       rep = stored-in r i xs outRep (omega arith) (omega arith) (omega arith) ∙ ap (λ (j : ℕ). getD xs j 0) (let z : outRep - i ≡ 0 = omega arith in z) ∙ e;
       t = other tcyc (λ e. omega arith);
       n = other cnfCyc (λ e. omega arith);
@@ -133,7 +140,7 @@ pub limits-view : (a : Agent) (i : ℕ) (xs : List ℕ) → 0x18 ≤ i → i + l
     → Agree (viewOf (storeAll i xs a)) (limits (tOf (storeAll i xs a)) (nOf (storeAll i xs a)) (mOf (storeAll i xs a)) (viewOf a))
 limits-view a i xs low high =
     let r : List ℕ = a .regs in
-    by-registers refl refl refl refl (record {
+    by-registers refl refl refl refl refl (record {
       rep = stored-outside r i xs outRep (λ p q. omega arith);
       t = refl;
       n = refl;
@@ -146,7 +153,7 @@ pub outputs-view : (a : Agent) (i : ℕ) (xs : List ℕ) → length (a .regs) �
     → Agree (viewOf (withIdle 0 (storeAll i xs a))) (outputs i xs (viewOf a))
 outputs-view a i xs size low high =
     let r : List ℕ = a .regs in
-    by-registers refl refl refl refl (record {
+    by-registers refl refl refl refl refl (record {
       rep = stored-outside r i xs outRep (λ p q. omega arith);
       t = stored-outside r i xs tcyc (λ p q. omega arith);
       n = stored-outside r i xs cnfCyc (λ p q. omega arith);
@@ -166,7 +173,7 @@ named-view a src sid size small =
     let r : List ℕ = a .regs in
     let xs : List ℕ = lowBytes 3 sid in
     let other : (j : ℕ) → outRep ≤ j → getD (sets r sidAt xs) j 0 ≡ getD r j 0 = λ j h. stored-outside r sidAt xs j (λ p q. omega arith) in
-    by-registers refl (some-count (a .count)) refl refl (record {
+    by-registers refl (some-count (a .count)) refl refl refl (record {
       rep = other outRep (omega arith);
       t = other tcyc (omega arith);
       n = other cnfCyc (omega arith);
@@ -177,4 +184,4 @@ named-view a src sid size small =
 
 pub recorded-view : (a : Agent) (src : ℕ) → eqb (a .count) 0 ≡ false → Agree (viewOf (recorded src a)) (viewOf a)
 unfolding recorded
-recorded-view a src e = by-registers refl (some-count (a .count) ∙ sym (ap not e)) refl refl (same-refl (registersOf (a .regs)))
+recorded-view a src e = by-registers refl (some-count (a .count) ∙ sym (ap not e)) refl refl refl (same-refl (registersOf (a .regs)))

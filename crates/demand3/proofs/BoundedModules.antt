@@ -13,7 +13,7 @@ use Rattle.rules.specs.Calls.{Call}
 use Rattle.rules.specs.Fallback as fallback
 use Rattle.rules.specs.Tick.{silenceEnd}
 use Rattle.demand3.specs.Claim.{Safe, Enters, Bounded}
-use Rattle.demand3.specs.Events.{Event, aTick, aSync, aRequest, aRefusedWrite, anAssignment, nothing, ordersRelease, Request}
+use Rattle.demand3.specs.Events.{Event, aTick, aSync, aMissedSync, aRequest, aRefusedWrite, anAssignment, nothing, ordersRelease, Request}
 use Rattle.demand3.specs.History.{History, powerOn, _▸_, Entry, Seen}
 use Rattle.demand3.specs.Numbers.{inRun, inFallback, unsound}
 use Rattle.demand3.specs.Words.{silenceAfter, silence, EntersRun, TickAtSyncLimit, Released, ordered, still}
@@ -32,6 +32,7 @@ moreSilence s = choose (ltb s silenceEnd) (s + 1) silenceEnd
 abbrev pub Quiet : Event → Type 0
 Quiet aTick = ⊥
 Quiet (aSync src cyc) = ⊥
+Quiet aMissedSync = Unit {0}
 Quiet (aRequest r) = Unit {0}
 Quiet (aRefusedWrite r) = Unit {0}
 Quiet (anAssignment sid) = Unit {0}
@@ -89,7 +90,7 @@ record Entered (h : History) (e : Entry) : Type 0 where
   sync-silence : TickAtSyncLimit h e → Safe (e .after)
   entry-to-run : EntersRun e → Enters h e
 
-not-both : (m : ℕ) → m ≡ inRun → m ≡ inFallback → ⊥
+pub not-both : (m : ℕ) → m ≡ inRun → m ≡ inFallback → ⊥
 not-both m p q = omega arith
 
 counts-on : (s x : ℕ) → s ≡ min x silenceEnd → moreSilence s ≡ min (x + 1) silenceEnd
@@ -104,6 +105,7 @@ not-at-limit s x n t e p q under at =
     omega arith
 
 quiet-silence : (ev : Event) (x : ℕ) → Quiet ev → silenceAfter ev x ≡ x
+quiet-silence aMissedSync x q = refl
 quiet-silence (aRequest r) x q = refl
 quiet-silence (aRefusedWrite r) x q = refl
 quiet-silence (anAssignment sid) x q = refl

@@ -27,16 +27,16 @@ use Rattle.rules.specs.Writes.{spanOf, allowed, written}
 use Rattle.rules.specs.declared.Agent.{Agent}
 use Rattle.rules.specs.declared.Deed.{Deed}
 use Rattle.rules.specs.declared.Span.{Span}
-use Rattle.rules.proofs.Cases.{isHosts, Accepts, heard, read, wrote, renamed, first, again, later, KindCase, refuses, fell, outside, accepts, FrameCase, unread, readAs, CallCase, unsoundly, hosts, ticks, frames, call-case}
+use Rattle.rules.proofs.Cases.{isHosts, Accepts, heard, read, wrote, renamed, first, again, later, KindCase, refuses, fell, missed, outside, accepts, FrameCase, unread, readAs, CallCase, unsoundly, hosts, ticks, frames, call-case}
 use Rattle.demand3.specs.Events.{eventOf}
-use Rattle.demand3.specs.Numbers.{isAccepted, accepted, outsideRules}
+use Rattle.demand3.specs.Numbers.{isAccepted, accepted, outsideRules, outsideWindow}
 use Rattle.demand3.proofs.AgentViews.{agree-refl, apart-view, named-view, recorded-view}
 use Rattle.demand3.proofs.Effects.{Told, told, takes, named, asked, takenOnly, namedFirst, acknowledged, Step}
 use Rattle.demand3.proofs.FrameEvents.{Unheeded, unheeded, Carries, carries, sync-brings-none}
 use Rattle.demand3.proofs.RegisterViews.{apart-inputs, apart-tid}
 use Rattle.demand3.proofs.RequestDid.{is-due, at-due, is-laid}
-use Rattle.demand3.proofs.Steps.{Leaves, Shown, untaken, after-reply, keeps, refused}
-use Rattle.demand3.proofs.SyncDid.{synced-did, fell-did}
+use Rattle.demand3.proofs.Steps.{Leaves, Shown, not-heeded, after-reply, keeps, refused}
+use Rattle.demand3.proofs.SyncDid.{synced-did, fell-did, missed-did}
 use Rattle.demand3.proofs.TickDid.{tick-did}
 use Rattle.demand3.proofs.Views.{viewOf}
 use Rattle.demand3.proofs.WriteDid.{taken-view, span-did}
@@ -73,6 +73,7 @@ module _ {a : Agent} (good : Good a) where
     kind-did : {f : Frame} {xs : List ℕ} {d : Deed} → Unheeded call → Carries call f xs → KindCase a f xs d → Shown a call d
     kind-did {f = f} u c (refuses n h) = refused u (isSync f && running a) n h
     kind-did u c (fell e) = fell-did good call u (sync-brings-none c)
+    kind-did u c (missed e) = missed-did good call (c .amounts outsideWindow) (sync-brings-none c)
     kind-did u c (outside {add = add} {xs = xs} p) =
         at-due p (Leaves a call outsideRules)
         record { view = takes (viewOf a); did = takenOnly _ (c .amounts outsideRules) (is-due p (writes add xs) (c .sized .3)); shows = taken-view a }
@@ -88,7 +89,7 @@ module _ {a : Agent} (good : Good a) where
   call-did : {call : Call} {o : Outcome} → BytesCall call → CallCase a call o → Step a (told call) o
   unfolding eventOf withInputs
   call-did b (unsoundly e) = never (sym e ∙ good .sound-is)
-  call-did {call = call} b (hosts n h) = keeps n a (unheeded call n (untaken isHosts n h refl refl)) (agree-refl (viewOf a))
+  call-did {call = call} b (hosts n h) = keeps n a (unheeded call n (not-heeded isHosts n h refl refl refl)) (agree-refl (viewOf a))
   call-did b (ticks {xs = xs} e) =
       tick-did a (withInputs xs a) (apart-view inputsAt xs a (apart-inputs (length xs))) (told (tick xs)) accepted refl
       (length-sets (a .regs) inputsAt xs ∙ good .registers)

@@ -4,7 +4,7 @@ use mathlib.Core.List.{List, _∷_}
 use mathlib.Core.Option.{Option, some, Option·some-injective}
 use mathlib.Core.Path.{_≡_, refl, sym, _∙_, ap, subst}
 use Prim.Native.Nat.{ℕ}
-use Rattle.demand3.specs.Events.{Event, aTick, aSync, aRequest, aRefusedWrite, anAssignment, nothing}
+use Rattle.demand3.specs.Events.{Event, aTick, aSync, aMissedSync, aRequest, aRefusedWrite, anAssignment, nothing}
 use Rattle.demand3.specs.History.{History, Entry}
 use Rattle.demand3.specs.Sharper.{accepts, Brings, Unchanged, Deposed, by, since, Among, here, there, Sharper}
 use Rattle.demand3.specs.Words.{SyncOf, event, syncAfter, lastSync, taken, Differs, AllDiffer}
@@ -25,6 +25,7 @@ other-after : (src : ℕ) (Y : Option SyncOf) (w : Event) → OtherLast src Y �
 other-after src Y aTick o no-own = o
 other-after src Y (aSync x c) o no-own =
     record { other = x; cyc = c; last = refl; differs = λ e. no-own c (subst (λ (y : ℕ). aSync x c ≡ aSync y c) (sym e) refl) }
+other-after src Y aMissedSync o no-own = o
 other-after src Y (aRequest r) o no-own = o
 other-after src Y (aRefusedWrite r) o no-own = o
 other-after src Y (anAssignment sid) o no-own = o

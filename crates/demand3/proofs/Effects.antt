@@ -3,7 +3,7 @@
 use mathlib.Core.Bool.{Bool, true, false}
 use mathlib.Core.List.{List}
 use mathlib.Core.Path.{_≡_}
-use Prim.Native.Nat.{ℕ, _+_, _-_, _*_, _%_, _<_}
+use Prim.Native.Nat.{ℕ, _+_, _-_, _*_, _%_, _≤_, _<_}
 use lib.Dec.{eqb, ltb, leb}
 use lib.ListN.{length, getD}
 use Rattle.base.specs.Choice.{choose}
@@ -14,11 +14,11 @@ use Rattle.rules.specs.Calls.{Call, frame}
 use Rattle.rules.specs.Fallback.{released, withheld}
 use Rattle.rules.specs.Registers.{outputsAt}
 use Rattle.rules.specs.Replies.{Outcome}
-use Rattle.rules.specs.State.{inRun, inFallback, isHeard, unheard, nobody}
+use Rattle.rules.specs.State.{inRun, inFallback, isHeard, unheard, isMarked, unmarked, nobody}
 use Rattle.rules.specs.Tick.{silenceEnd}
 use Rattle.rules.specs.declared.Agent.{Agent}
-use Rattle.demand3.specs.Events.{Event, aTick, aSync, aRequest, aRefusedWrite, anAssignment, nothing, eventOf, ordersRelease, writesOutputs, Request}
-use Rattle.demand3.specs.Numbers.{isAccepted, firstSeq}
+use Rattle.demand3.specs.Events.{Event, aTick, aSync, aMissedSync, aRequest, aRefusedWrite, anAssignment, nothing, eventOf, ordersRelease, writesOutputs, Request}
+use Rattle.demand3.specs.Numbers.{window, isAccepted, firstSeq}
 use Rattle.demand3.specs.Sharper.{Brings}
 use Rattle.demand3.proofs.Views.{RegisterView, Cycle, Clocks, View, viewOf, Agree}
 
@@ -49,7 +49,11 @@ stored add xs r = record {
 
 -- q from 0 on
 abbrev pub commanded : Clocks → Clocks
-commanded x = record { s = x .s; q = 0 }
+commanded x = record { s = x .s; q = 0; e = x .e }
+
+-- e from 0 on
+abbrev pub restarted : Clocks → Clocks
+restarted x = record { s = x .s; q = x .q; e = 0 }
 
 -- no request yet, and the sync of this cycle not heard
 abbrev pub nextOne : Cycle → Cycle
@@ -61,32 +65,39 @@ takenOne y = record { last = y .last; heard = y .heard; c = y .c; k = y .k + 1 }
 
 -- one tick, in that mode
 abbrev pub clocksOn : ℕ → Clocks → Clocks
-clocksOn mode x = record { s = choose (ltb (x .s) silenceEnd) (x .s + 1) silenceEnd; q = choose (eqb mode inRun) (x .q + 1) (x .q) }
+clocksOn mode x = record { s = choose (ltb (x .s) silenceEnd) (x .s + 1) silenceEnd; q = choose (eqb mode inRun) (x .q + 1) (x .q); e = x .e + 1 }
 
 abbrev withRegisters : RegisterView → View → View
-withRegisters r v = record { mode = v .mode; assigned = v .assigned; registers = r; cycle = v .cycle; clocks = v .clocks }
+withRegisters r v = record { mode = v .mode; assigned = v .assigned; mark = v .mark; registers = r; cycle = v .cycle; clocks = v .clocks }
 
 abbrev withCycle : Cycle → View → View
-withCycle y v = record { mode = v .mode; assigned = v .assigned; registers = v .registers; cycle = y; clocks = v .clocks }
+withCycle y v = record { mode = v .mode; assigned = v .assigned; mark = v .mark; registers = v .registers; cycle = y; clocks = v .clocks }
 
 abbrev withClocks : Clocks → View → View
-withClocks x v = record { mode = v .mode; assigned = v .assigned; registers = v .registers; cycle = v .cycle; clocks = x }
+withClocks x v = record { mode = v .mode; assigned = v .assigned; mark = v .mark; registers = v .registers; cycle = v .cycle; clocks = x }
+
+abbrev withMark : ℕ → View → View
+withMark x v = record { mode = v .mode; assigned = v .assigned; mark = x; registers = v .registers; cycle = v .cycle; clocks = v .clocks }
 
 -- ---- and of the view
 abbrev pub fallen : View → View
-fallen v = record { mode = inFallback; assigned = v .assigned; registers = cold (v .registers); cycle = v .cycle; clocks = commanded (v .clocks) }
+fallen v = record { mode = inFallback; assigned = v .assigned; mark = unmarked; registers = cold (v .registers); cycle = v .cycle; clocks = commanded (v .clocks) }
 
 abbrev pub countedOn : View → View
 countedOn v = withClocks (clocksOn (v .mode) (v .clocks)) v
 
 abbrev pub nextCycle : View → View
-nextCycle v = withCycle (nextOne (v .cycle)) v
+nextCycle v = withCycle (nextOne (v .cycle)) (withClocks (restarted (v .clocks)) v)
 
 abbrev pub hears : ℕ → ℕ → View → View
-hears src cyc v = withCycle (record { last = src; heard = isHeard; c = cyc; k = 0 }) (withClocks (record { s = 0; q = v .clocks .q }) v)
+hears src cyc v =
+    withMark unmarked (withCycle (record { last = src; heard = isHeard; c = cyc; k = 0 }) (withClocks (record { s = 0; q = v .clocks .q; e = 0 }) v))
+
+abbrev pub misses : View → View
+misses v = withMark isMarked v
 
 abbrev pub runs : View → View
-runs v = record { mode = inRun; assigned = v .assigned; registers = v .registers; cycle = v .cycle; clocks = commanded (v .clocks) }
+runs v = record { mode = inRun; assigned = v .assigned; mark = v .mark; registers = v .registers; cycle = v .cycle; clocks = commanded (v .clocks) }
 
 abbrev pub takes : View → View
 takes v = withCycle (takenOne (v .cycle)) v
@@ -101,7 +112,7 @@ abbrev pub outputs : ℕ → List ℕ → View → View
 outputs add xs v = withRegisters (stored add xs (v .registers)) (withClocks (commanded (v .clocks)) v)
 
 abbrev pub named : ℕ → View → View
-named sid v = record { mode = v .mode; assigned = true; registers = withSid sid (v .registers); cycle = v .cycle; clocks = v .clocks }
+named sid v = record { mode = v .mode; assigned = true; mark = v .mark; registers = withSid sid (v .registers); cycle = v .cycle; clocks = v .clocks }
 
 -- a request with the number due
 pub record Due (v : View) (r : Request) : Type 0 where
@@ -117,6 +128,16 @@ pub record Due (v : View) (r : Request) : Type 0 where
 pub record BelowLimits (v : View) : Type 0 where
   pub sync : v .clocks .s < v .registers .n * v .registers .t
   pub command : v .mode ≡ inRun → v .clocks .q < v .registers .m * v .registers .t
+
+-- the cycle ends at this tick, and no mark is set in RUN
+pub record Ends (v : View) : Type 0 where
+  pub over : v .registers .t ≤ v .clocks .e
+  pub no-mark : v .mode ≡ inRun → v .mark ≡ isMarked → ⊥
+
+-- a sync in its window: that of the next cycle at the end of this one, or that of this cycle, unheard, at its begin
+pub data InTime (v : View) : Type 0 where
+  next : v .registers .t ≤ v .clocks .e + window (v .registers .t) → InTime v
+  same : v .cycle .heard ≡ unheard → v .clocks .e ≤ window (v .registers .t) → InTime v
 
 -- the call is a body laid down for a write
 pub record LaidWrite (call : Call) (r : Request) (add : ℕ) (xs : List ℕ) : Type 0 where
@@ -137,11 +158,12 @@ BringsNone call = (src seq : ℕ) → Brings call src seq → ⊥
 pub data Did (v : View) (call : Call) (ok : Bool) (means : Event) : View → Type 0 where
   fellAtTick : means ≡ aTick → Did v call ok means (fallen (countedOn v))
   fellAtTickAndEnd : means ≡ aTick → Did v call ok means (nextCycle (fallen (countedOn v)))
-  tickedOn : means ≡ aTick → BelowLimits (countedOn v) → Did v call ok means (countedOn v)
-  tickedOnAndEnd : means ≡ aTick → BelowLimits (countedOn v) → Did v call ok means (nextCycle (countedOn v))
+  tickedOn : means ≡ aTick → BelowLimits (countedOn v) → v .clocks .e + 1 < v .registers .t → Did v call ok means (countedOn v)
+  tickedOnAndEnd : means ≡ aTick → BelowLimits (countedOn v) → Ends (countedOn v) → Did v call ok means (nextCycle (countedOn v))
   kept : means ≡ nothing → Did v call ok means v
   lost : means ≡ nothing → BringsNone call → Did v call ok means (fallen v)
-  heardOnly : (src cyc : ℕ) → means ≡ aSync src cyc → v .assigned ≡ true → Did v call ok means (hears src cyc v)
+  missed : means ≡ aMissedSync → BringsNone call → Did v call ok means (misses v)
+  heardOnly : (src cyc : ℕ) → means ≡ aSync src cyc → v .assigned ≡ true → (v .mode ≡ inRun → InTime v) → Did v call ok means (hears src cyc v)
   enteredRun : (src cyc : ℕ) → means ≡ aSync src cyc → v .assigned ≡ true → v .mode ≡ inFallback → v .registers .rep ≡ released → Did v call ok means (runs (hears src cyc v))
   takenOnly : (r : Request) → means ≡ aRefusedWrite r → Due v r → Did v call ok means (takes v)
   asked : (r : Request) → means ≡ aRequest r → Due v r → writesOutputs (r .ask) ≡ false → Did v call ok means (takes v)

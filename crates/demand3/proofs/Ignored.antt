@@ -4,11 +4,11 @@ use mathlib.Core.Bool.{Bool}
 use mathlib.Core.Path.{_≡_, subst}
 use Prim.Native.Nat.{ℕ}
 use Rattle.rules.specs.Calls.{Call}
-use Rattle.demand3.specs.Events.{Event, aTick, aSync, aRequest, aRefusedWrite, anAssignment, nothing, Request}
+use Rattle.demand3.specs.Events.{Event, aTick, aSync, aMissedSync, aRequest, aRefusedWrite, anAssignment, nothing, Request}
 use Rattle.demand3.specs.History.{Entry}
 use Rattle.demand3.specs.Sharper.{Brings, Unchanged}
 use Rattle.demand3.specs.Words.{event}
-use Rattle.demand3.proofs.Effects.{Did, fellAtTick, fellAtTickAndEnd, tickedOn, tickedOnAndEnd, kept, lost, heardOnly, enteredRun, takenOnly, asked, configured, releasedBy, withdrawn, output, namedFirst, acknowledged}
+use Rattle.demand3.proofs.Effects.{Did, fellAtTick, fellAtTickAndEnd, tickedOn, tickedOnAndEnd, kept, lost, missed, heardOnly, enteredRun, takenOnly, asked, configured, releasedBy, withdrawn, output, namedFirst, acknowledged}
 use Rattle.demand3.proofs.Link.{viewEntry}
 use Rattle.demand3.proofs.Views.{View, Agree}
 
@@ -16,6 +16,7 @@ use Rattle.demand3.proofs.Views.{View, Agree}
 abbrev pub MeansAsked : (src seq : ℕ) → Event → Type 0
 MeansAsked src seq aTick = ⊥
 MeansAsked src seq (aSync s c) = ⊥
+MeansAsked src seq aMissedSync = ⊥
 MeansAsked src seq (aRequest r) = (r .src ≡ src) × (r .seq ≡ seq)
 MeansAsked src seq (aRefusedWrite r) = Unit {0}
 MeansAsked src seq (anAssignment sid) = ⊥
@@ -33,11 +34,12 @@ module _ (v u : View) (call : Call) (n : ℕ) (means : Event) (src seq : ℕ) (b
   pub unchanged-by : {w : View} {ok : Bool} → Did v call ok means w → Agree u w → Unchanged (viewEntry v call n means u)
   unchanged-by (fellAtTick e) a = absurd (subst (MeansAsked src seq) e m)
   unchanged-by (fellAtTickAndEnd e) a = absurd (subst (MeansAsked src seq) e m)
-  unchanged-by (tickedOn e below) a = absurd (subst (MeansAsked src seq) e m)
-  unchanged-by (tickedOnAndEnd e below) a = absurd (subst (MeansAsked src seq) e m)
+  unchanged-by (tickedOn e below on) a = absurd (subst (MeansAsked src seq) e m)
+  unchanged-by (tickedOnAndEnd e below ends) a = absurd (subst (MeansAsked src seq) e m)
   unchanged-by (kept e) a = record { outputs = a .registers .out; mode = a .mode }
   unchanged-by (lost e none) a = absurd (none src seq b)
-  unchanged-by (heardOnly s c e known) a = absurd (subst (MeansAsked src seq) e m)
+  unchanged-by (missed e none) a = absurd (none src seq b)
+  unchanged-by (heardOnly s c e known timely) a = absurd (subst (MeansAsked src seq) e m)
   unchanged-by (enteredRun s c e known p q) a = absurd (subst (MeansAsked src seq) e m)
   unchanged-by (takenOnly r e due) a = record { outputs = a .registers .out; mode = a .mode }
   unchanged-by (asked r e due w) a = absurd (accepted-so r e)

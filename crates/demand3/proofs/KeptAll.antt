@@ -4,8 +4,8 @@ use Rattle.rules.specs.Calls.{Call}
 use Rattle.demand3.specs.Events.{Event}
 use Rattle.demand3.specs.History.{History}
 use Rattle.demand3.specs.Numbers.{isAccepted}
-use Rattle.demand3.proofs.Effects.{Did, fellAtTick, fellAtTickAndEnd, tickedOn, tickedOnAndEnd, kept, lost, heardOnly, enteredRun, takenOnly, asked, configured, releasedBy, withdrawn, output, namedFirst, acknowledged}
-use Rattle.demand3.proofs.KeptOthers.{kept-kept, kept-lost, kept-namedFirst, kept-acknowledged}
+use Rattle.demand3.proofs.Effects.{Did, fellAtTick, fellAtTickAndEnd, tickedOn, tickedOnAndEnd, kept, lost, missed, heardOnly, enteredRun, takenOnly, asked, configured, releasedBy, withdrawn, output, namedFirst, acknowledged}
+use Rattle.demand3.proofs.KeptOthers.{kept-kept, kept-lost, kept-missed, kept-namedFirst, kept-acknowledged}
 use Rattle.demand3.proofs.KeptOutputs.{kept-output}
 use Rattle.demand3.proofs.KeptRequests.{kept-takenOnly, kept-asked, kept-configured, kept-releasedBy, kept-withdrawn}
 use Rattle.demand3.proofs.KeptSyncs.{kept-heardOnly, kept-enteredRun}
@@ -17,11 +17,12 @@ module _ (h : History) (v : View) (f : Facts v) (l : Linked h v) (call : Call) (
   pub kept-by : {w : View} → Did v call (isAccepted n) means w → Kept h v call n means w
   kept-by (fellAtTick ev) = kept-fellAtTick h v f l call n means ev
   kept-by (fellAtTickAndEnd ev) = at-cycle-end (kept-fellAtTick h v f l call n means ev)
-  kept-by (tickedOn ev below) = kept-tickedOn h v f l call n means ev below
-  kept-by (tickedOnAndEnd ev below) = at-cycle-end (kept-tickedOn h v f l call n means ev below)
+  kept-by (tickedOn ev below on) = kept-tickedOn h v f l call n means ev below
+  kept-by (tickedOnAndEnd ev below ends) = at-cycle-end (kept-tickedOn h v f l call n means ev below)
   kept-by (kept ev) = kept-kept h v f l call n means ev
   kept-by (lost ev none) = kept-lost h v f l call n means ev
-  kept-by (heardOnly src cyc ev known) = kept-heardOnly h v f l call n means src cyc ev
+  kept-by (missed ev none) = kept-missed h v f l call n means ev
+  kept-by (heardOnly src cyc ev known timely) = kept-heardOnly h v f l call n means src cyc ev
   kept-by (enteredRun src cyc ev known p q) = kept-enteredRun h v f l call n means src cyc ev p
   kept-by (takenOnly r ev due) = kept-takenOnly h v f l r due call n means ev
   kept-by (asked r ev due w) = kept-asked h v f l r due call n means ev w

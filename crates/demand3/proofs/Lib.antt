@@ -26,12 +26,15 @@ pub mod AskedEvents
 pub mod Device
 pub mod BoundedModules
 pub mod SafeIsBounded
+pub mod TimedModules
+pub mod SafeIsTimed
 pub mod SafeModules
 pub mod Deposed
 pub mod Proved
 pub mod Refuses
 pub mod RefusesWrites
 pub mod RefusesData
+pub mod RefusesTimes
 pub mod TickCalls
 pub mod ReachedLaws
 pub mod Meant

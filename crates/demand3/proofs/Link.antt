@@ -12,7 +12,7 @@ use Rattle.rules.specs.Calls.{Call}
 use Rattle.rules.specs.Registers.{image}
 use Rattle.rules.specs.State.{inRun, inFallback}
 use Rattle.demand3.specs.Claim.{Safe, OutputsRight, same, fell}
-use Rattle.demand3.specs.Events.{Event, aTick, aSync, aRequest, aRefusedWrite, anAssignment, nothing, Request}
+use Rattle.demand3.specs.Events.{Event, aTick, aSync, aMissedSync, aRequest, aRefusedWrite, anAssignment, nothing, Request}
 use Rattle.demand3.specs.History.{History, _▸_, Entry, Seen}
 use Rattle.demand3.specs.Sharper.{Takes, accepts, refuses, Fresh}
 use Rattle.demand3.specs.Words.{SyncOf, event, lastSync, ownSid, taken, idle, AllDiffer, LeavesRun, TickAtCommandLimit}
@@ -68,6 +68,7 @@ by-mode {P = P} v f run rest = pick (eqb (v .mode) inRun) refl
 abbrev pub NotTick : Event → Type 0
 NotTick aTick = ⊥
 NotTick (aSync src cyc) = Unit {0}
+NotTick aMissedSync = Unit {0}
 NotTick (aRequest r) = Unit {0}
 NotTick (aRefusedWrite r) = Unit {0}
 NotTick (anAssignment sid) = Unit {0}
@@ -79,6 +80,7 @@ no-tick w n p q = subst NotTick (sym p ∙ q) n
 abbrev pub NoRequest : Event → Type 0
 NoRequest aTick = Unit {0}
 NoRequest (aSync src cyc) = Unit {0}
+NoRequest aMissedSync = Unit {0}
 NoRequest (aRequest r) = ⊥
 NoRequest (aRefusedWrite r) = ⊥
 NoRequest (anAssignment sid) = Unit {0}

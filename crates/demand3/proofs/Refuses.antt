@@ -19,7 +19,7 @@ shows mode x = record { mode = mode; out = λ i. x; t = 1; n = 1; m = 1 }
 abbrev pub tickEntry : Seen → Seen → Entry
 tickEntry x y = callEntry (tick []) 0 x y
 
-is-tick : eventOf (tick []) 0 ≡ aTick
+pub is-tick : eventOf (tick []) 0 ≡ aTick
 unfolding eventOf
 is-tick = refl
 

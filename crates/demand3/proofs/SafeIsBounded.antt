@@ -2,10 +2,10 @@
 use mathlib.Core.Bool.{Bool}
 use mathlib.Core.Path.{_≡_, sym, ap, subst}
 use Rattle.rules.specs.Calls.{Call}
-use Rattle.demand3.specs.Events.{Event, aRequest, aRefusedWrite, anAssignment, nothing}
+use Rattle.demand3.specs.Events.{Event, aMissedSync, aRequest, aRefusedWrite, anAssignment, nothing}
 use Rattle.demand3.proofs.BoundedModules.{Watchdog, Quiet, MayDo}
 use Rattle.demand3.proofs.BoundedModules as moves
-use Rattle.demand3.proofs.Effects.{Did, fellAtTick, fellAtTickAndEnd, tickedOn, tickedOnAndEnd, kept, lost, heardOnly, enteredRun, takenOnly, asked, configured, releasedBy, withdrawn, output, namedFirst, acknowledged}
+use Rattle.demand3.proofs.Effects.{Did, fellAtTick, fellAtTickAndEnd, tickedOn, tickedOnAndEnd, kept, lost, missed, heardOnly, enteredRun, takenOnly, asked, configured, releasedBy, withdrawn, output, namedFirst, acknowledged}
 use Rattle.demand3.proofs.Link.{viewSeen}
 use Rattle.demand3.proofs.Views.{Clocks, View, Agree, Facts}
 
@@ -22,11 +22,12 @@ module _ (v u : View) (f : Facts v) (call : Call) {ok : Bool} {means : Event} wh
   pub moved : {w : View} → Did v call ok means w → Agree u w → MayDo (watchdogOf v) means (watchdogOf u)
   moved (fellAtTick ev) a = moves.fellAtTick ev (same-silence a) (a .registers .rep) record { mode = a .mode; zero = a .registers .out }
   moved (fellAtTickAndEnd ev) a = moves.fellAtTick ev (same-silence a) (a .registers .rep) record { mode = a .mode; zero = a .registers .out }
-  moved (tickedOn ev below) a = moves.tickedOn ev (same-silence a) record { under = rw (same-silence a) (below .sync); n = f .n; t = f .t } record { mode = a .mode; rep = a .registers .rep }
-  moved (tickedOnAndEnd ev below) a = moves.tickedOn ev (same-silence a) record { under = rw (same-silence a) (below .sync); n = f .n; t = f .t } record { mode = a .mode; rep = a .registers .rep }
+  moved (tickedOn ev below on) a = moves.tickedOn ev (same-silence a) record { under = rw (same-silence a) (below .sync); n = f .n; t = f .t } record { mode = a .mode; rep = a .registers .rep }
+  moved (tickedOnAndEnd ev below ends) a = moves.tickedOn ev (same-silence a) record { under = rw (same-silence a) (below .sync); n = f .n; t = f .t } record { mode = a .mode; rep = a .registers .rep }
   moved (kept ev) a = moves.kept (quiet nothing tt ev) (same-silence a) record { mode = a .mode; rep = a .registers .rep }
   moved (lost ev none) a = moves.fell (quiet nothing tt ev) (same-silence a) (a .registers .rep) (a .mode)
-  moved (heardOnly src cyc ev known) a = moves.heardOnly src cyc ev (same-silence a) record { mode = a .mode; rep = a .registers .rep }
+  moved (missed ev none) a = moves.kept (quiet aMissedSync tt ev) (same-silence a) record { mode = a .mode; rep = a .registers .rep }
+  moved (heardOnly src cyc ev known timely) a = moves.heardOnly src cyc ev (same-silence a) record { mode = a .mode; rep = a .registers .rep }
   moved (enteredRun src cyc ev known p q) a = moves.enteredRun src cyc ev (same-silence a) p q (a .mode)
   moved (takenOnly r ev due) a = moves.kept (quiet (aRefusedWrite r) tt ev) (same-silence a) record { mode = a .mode; rep = a .registers .rep }
   moved (asked r ev due w) a = moves.kept (quiet (aRequest r) tt ev) (same-silence a) record { mode = a .mode; rep = a .registers .rep }

@@ -21,7 +21,10 @@ use Rattle.demand3.proofs.KeptAll.{kept-by}
 use Rattle.demand3.proofs.Link.{Linked, Kept, Fine, viewSeen, viewEntry}
 use Rattle.demand3.proofs.Numbering.{when-unheard}
 use Rattle.demand3.proofs.SafeIsBounded.{watchdogOf, moved}
+use Rattle.demand3.proofs.SafeIsTimed.{timerOf, steady}
+use Rattle.demand3.proofs.SafeIsTimed as times
 use Rattle.demand3.proofs.Shown.{shows-kept}
+use Rattle.demand3.proofs.TimedModules.{CallTimed, timedModule, timed}
 use Rattle.demand3.proofs.Views.{View, Agree, Facts}
 
 -- at power-up
@@ -52,6 +55,11 @@ call-bounded v u call n means s = record { sound = s .sound; move = moved v u (s
 
 starts-bounded : (v : View) → StartsSafe v → StartsBounded (watchdogOf v)
 starts-bounded v s = record { mode = s .mode; rep = s .rep; s = s .s }
+
+-- ---- in their window
+call-timed : (v u : View) (call : Call) (n : ℕ) (means : Event) → CallSafe v call n means u → CallTimed (timerOf v) call n means (timerOf u)
+call-timed v u call n means s =
+    record { steady = steady v u (s .facts) call (s .did) (s .shows); move = times.moved v u (s .facts) call (s .did) (s .shows) }
 
 -- ---- and the rest
 start-link : (v : View) → StartsSafe v → Linked powerOn v
@@ -85,10 +93,14 @@ each-call = of-each safeModule Linked start-link (λ h v u call n means s l. cal
 pub holds : {h : History} {v : View} → HistoryOf safeModule h v → Holds h
 holds m =
     let all = each-call m in
+    let in-time = timed (does-as safeModule timedModule timerOf (λ v. refl) (λ v s. s .mode) call-timed m) in
     record {
       bounded = bounded (does-as safeModule boundedModule watchdogOf (λ v. refl) starts-bounded call-bounded m);
       outputs = λ past e c. all past e c .fine .outputs;
       leaving-run = λ past e c. all past e c .fine .leaving-run;
       numbers = λ past e c. all past e c .fine .numbers;
       command-silence = λ past e c. all past e c .fine .command-silence;
+      sync-window = λ past e c. in-time past e c .sync-window;
+      steady-cycle = λ past e c. in-time past e c .steady-cycle;
+      missed-sync = λ past e c. in-time past e c .missed-sync;
     }

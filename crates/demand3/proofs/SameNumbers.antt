@@ -1,5 +1,5 @@
--- The claim's numbers joined to the rules' own: a release order, an output write, the first SEQ and the limit of requests
--- mean the same in both. Assumes nothing.
+-- The claim's numbers joined to the rules' own: a release order, an output write, the first SEQ, the limit of requests and the
+-- width of the window mean the same in both. Assumes nothing.
 use mathlib.Core.Bool.{Bool, true, false, _&&_}
 use mathlib.Core.List.{List}
 use mathlib.Core.Path.{_≡_, refl, sym, ap, _∙_, subst}
@@ -16,13 +16,14 @@ use Rattle.rules.specs.Fixed as Limit
 use Rattle.rules.specs.Registers as Registers
 use Rattle.rules.specs.Requests as Requests
 use Rattle.rules.specs.State as State
+use Rattle.rules.specs.Window.{width}
 use Rattle.rules.specs.Writes.{spanAt, spanEnd, spanOf}
 use Rattle.rules.specs.declared.Fixed.{Fixed}
 use Rattle.rules.specs.declared.Span.{Span}
 use Rattle.rules.specs.declared.Span.the-variants.{Release, CycleTime, Limits, Counters, Config, Outputs, Outside}
 use Rattle.rules.proofs.SoundParts.{fits-is}
 use Rattle.rules.proofs.Spans.{InSpan, in-span}
-use Rattle.demand3.specs.Numbers.{inRun, inFallback, tcyc, cnfRep, cnfCyc, outputsAt, lastOutput, image, isLimit, accepted, outsideRules, unsound, isAccepted, firstSeq, writesRelease, writesWithinOutputs}
+use Rattle.demand3.specs.Numbers.{inRun, inFallback, tcyc, cnfRep, cnfCyc, outputsAt, lastOutput, image, isLimit, window, accepted, outsideRules, unsound, outsideWindow, isAccepted, firstSeq, writesRelease, writesWithinOutputs}
 
 pub same-modes : (inRun ≡ State.inRun) × (inFallback ≡ State.inFallback)
 same-modes = (refl, refl)
@@ -30,8 +31,8 @@ same-modes = (refl, refl)
 pub same-registers : (tcyc ≡ Registers.tcyc) × (cnfRep ≡ Registers.cnfRep) × (cnfCyc ≡ Registers.cnfCyc) × (outputsAt ≡ Registers.outputsAt) × (image ≡ Registers.image)
 same-registers = (refl, refl, refl, refl, refl)
 
-pub same-answers : (accepted ≡ Answers.accepted) × (outsideRules ≡ Answers.outsideRules) × (unsound ≡ Answers.unsound)
-same-answers = (refl, refl, refl)
+pub same-answers : (accepted ≡ Answers.accepted) × (outsideRules ≡ Answers.outsideRules) × (unsound ≡ Answers.unsound) × (outsideWindow ≡ Answers.outsideWindow)
+same-answers = (refl, refl, refl, refl)
 
 pub same-accepted : (n : ℕ) → isAccepted n ≡ Answers.isAccepted n
 same-accepted n = refl
@@ -41,6 +42,10 @@ same-first-seq cyc = refl
 
 pub same-limit : (fixed : Fixed) → isLimit (fixed .limit) ≡ Limit.fits fixed
 same-limit fixed = sym (fits-is fixed)
+
+pub same-window : (t : ℕ) → window t ≡ width t
+unfolding width
+same-window t = refl
 
 -- ---- the span of such a write
 

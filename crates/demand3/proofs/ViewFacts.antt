@@ -12,7 +12,7 @@ use Rattle.rules.specs.Registers.{tcyc, cnfCyc}
 use Rattle.rules.specs.Sources.{isRecorded}
 use Rattle.rules.specs.State.{inRun, inFallback}
 use Rattle.rules.specs.declared.Agent.{Agent}
-use Rattle.rules.proofs.GoodFacts.{good-byte, good-last, good-modes, fallback-zero}
+use Rattle.rules.proofs.GoodFacts.{good-byte, good-t, good-last, good-modes, fallback-zero}
 use Rattle.rules.proofs.Recorded.{holds-where}
 use Rattle.demand3.proofs.Views.{viewOf, Facts}
 
@@ -32,6 +32,7 @@ module _ (a : Agent) (g : Good a) where
     modes = two-modes;
     cold = fallback-zero a g;
     t = omega (arith, good-byte a g tcyc);
+    t-set = good-t a g;
     n = omega (arith, good-byte a g cnfCyc);
     known = λ h. ⊎-elim (recorded-some a (a .last)) (λ e. absurd (h (e .0))) (good-last a g);
   }

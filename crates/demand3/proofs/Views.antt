@@ -1,4 +1,4 @@
--- What demand 3 looks at in an agent, part by part: what its registers show, the numbering of requests, the clocks.
+-- What demand 3 looks at in an agent, part by part: what its registers show, the numbering of requests, the clocks, the mark.
 -- When two views agree, and what a sound state says of its view. Assumes nothing.
 use mathlib.Core.Bool.{Bool, true, not}
 use mathlib.Core.List.{List}
@@ -26,15 +26,17 @@ pub record Cycle : Type 0 where
   pub c : ℕ
   pub k : ℕ
 
--- the clocks: s and q
+-- the clocks: s, q and e
 pub record Clocks : Type 0 where
   pub s : ℕ
   pub q : ℕ
+  pub e : ℕ
 
--- with the mode, and whether a SID is assigned
+-- with the mode, whether a SID is assigned, and the mark
 pub record View : Type 0 where
   pub mode : ℕ
   pub assigned : Bool
+  pub mark : ℕ
   pub registers : RegisterView
   pub cycle : Cycle
   pub clocks : Clocks
@@ -53,9 +55,10 @@ abbrev pub viewOf : Agent → View
 viewOf a = record {
   mode = a .mode;
   assigned = not (eqb (a .count) 0);
+  mark = a .mark;
   registers = registersOf (a .regs);
   cycle = record { last = a .last; heard = a .heard; c = a .cycle; k = a .taken };
-  clocks = record { s = a .silence; q = a .idle };
+  clocks = record { s = a .silence; q = a .idle; e = a .elapsed };
 }
 
 -- two views agree, the outputs one by one
@@ -70,6 +73,7 @@ pub record SameRegisters (x y : RegisterView) : Type 0 where
 pub record Agree (v w : View) : Type 0 where
   pub mode : v .mode ≡ w .mode
   pub assigned : v .assigned ≡ w .assigned
+  pub mark : v .mark ≡ w .mark
   pub registers : SameRegisters (v .registers) (w .registers)
   pub cycle : v .cycle ≡ w .cycle
   pub clocks : v .clocks ≡ w .clocks
@@ -79,5 +83,6 @@ pub record Facts (v : View) : Type 0 where
   pub modes : (v .mode ≡ inRun → ⊥) → v .mode ≡ inFallback
   pub cold : v .mode ≡ inFallback → (i : ℕ) → i < image → v .registers .out i ≡ 0
   pub t : v .registers .t ≤ 255
+  pub t-set : 0 < v .registers .t
   pub n : v .registers .n ≤ 255
   pub known : (v .cycle .last ≡ nobody → ⊥) → v .assigned ≡ true

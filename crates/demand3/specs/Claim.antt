@@ -3,7 +3,7 @@ use mathlib.Core.Bool.{true}
 use mathlib.Core.List.{List, [], _∷_}
 use mathlib.Core.Option.{some}
 use mathlib.Core.Path.{_≡_}
-use Prim.Native.Nat.{ℕ, _+_, _-_, _≤_, _<_}
+use Prim.Native.Nat.{ℕ, _+_, _-_, _*_, _≤_, _<_}
 use lib.ListN.{length, getD}
 use Rattle.laying.specs.Laying.{bodyOf}
 use Rattle.frame_kinds.specs.Kinds.{appOf}
@@ -14,8 +14,8 @@ use Rattle.rules.specs.PowerUp.{powerUp}
 use Rattle.rules.specs.declared.Fixed.{Fixed}
 use Rattle.demand3.specs.Events.{aSync}
 use Rattle.demand3.specs.History.{History, powerOn, _▸_, Entry, Seen, history}
-use Rattle.demand3.specs.Numbers.{inRun, inFallback, outputsAt, image, isLimit, isAccepted, unsound}
-use Rattle.demand3.specs.Words.{event, lastSync, ownSid, taken, numberDue, AllDiffer, LeavesRun, EntersRun, TickAtSyncLimit, TickAtCommandLimit, Released}
+use Rattle.demand3.specs.Numbers.{inRun, inFallback, outputsAt, image, isLimit, window, isAccepted, unsound}
+use Rattle.demand3.specs.Words.{SyncOf, event, lastSync, ownSid, taken, numberDue, AllDiffer, silence, LeavesRun, EntersRun, TickAtSyncLimit, TickAtCommandLimit, TickAtWindowLimit, SyncInRun, Released}
 
 -- in fallback, outputs zero
 pub record Safe (x : Seen) : Type 0 where
@@ -62,6 +62,16 @@ pub record Enters (h : History) (e : Entry) : Type 0 where
   pub by-sync : event e ≡ aSync src cyc
   pub released : Released h
 
+-- a sync in its window after the history h: there was an accepted sync before it, and the ticks since then are at least t − w, and
+-- at most w from a multiple of t
+pub record InWindow (h : History) (t : ℕ) : Type 0 where
+  pub earlier : SyncOf
+  pub accepted-before : lastSync h ≡ some earlier
+  pub least : t - window t ≤ silence h
+  pub multiple : ℕ
+  pub above : silence h ≤ multiple * t + window t
+  pub below : multiple * t - window t ≤ silence h
+
 -- in the history h the call e came right after the calls of `past`
 pub data Came (past : History) (e : Entry) : History → Type 0 where
   now : Came past e (past ▸ e)
@@ -92,6 +102,12 @@ pub record Holds (h : History) : Type 0 where
   pub numbers : Everywhere (λ past e. AllDiffer (taken (past ▸ e))) h
   -- silence of commands in RUN ends in fallback too, outputs zero
   pub command-silence : Everywhere (λ past e. TickAtCommandLimit past e → Safe (e .after)) h
+  -- a sync accepted in RUN is in its window
+  pub sync-window : Everywhere (λ past e. SyncInRun e → InWindow past (e .before .t)) h
+  -- t does not change in RUN
+  pub steady-cycle : Everywhere (λ past e. e .before .mode ≡ inRun → e .after .t ≡ e .before .t) h
+  -- a sync outside its window, and none accepted for t ticks, ends in fallback, outputs zero
+  pub missed-sync : Everywhere (λ past e. TickAtWindowLimit past e → Safe (e .after)) h
 
 -- bodies and inputs are bytes, as they are for every call of the code
 abbrev pub BytesCalls : List Call → Type 0

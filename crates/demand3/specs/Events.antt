@@ -15,7 +15,7 @@ use Rattle.frame_reading.specs.declared.Reading.the-variants as reading
 use Rattle.frame_reading.specs.declared.Received.{Received}
 use Rattle.rules.specs.Calls.{Call, tick, frame}
 use Rattle.rules.specs.Requests.{Ask, reads, writes}
-use Rattle.demand3.specs.Numbers.{isAccepted, outsideRules, writesRelease, writesWithinOutputs}
+use Rattle.demand3.specs.Numbers.{isAccepted, outsideRules, outsideWindow, writesRelease, writesWithinOutputs}
 
 -- a safe request: DEST, SRC, CYC, SEQ and what it asks for
 pub record Request : Type 0 where
@@ -29,6 +29,8 @@ pub data Event : Type 0 where
   aTick : Event
   -- an accepted sync: SRC and CYC
   aSync : (src cyc : ℕ) → Event
+  -- a sync refused with 22: outside its window
+  aMissedSync : Event
   -- a safe request answered 0
   aRequest : Request → Event
   -- a safe request answered 16: taken too
@@ -43,7 +45,7 @@ ofRequest r n = choose (isAccepted n) (aRequest r) (choose (eqb n outsideRules) 
 
 -- a frame with its data, and the answer
 abbrev pub ofFrame : Frame → List ℕ → ℕ → Event
-ofFrame (Sync src cyc) xs n = choose (isAccepted n) (aSync src cyc) nothing
+ofFrame (Sync src cyc) xs n = choose (isAccepted n) (aSync src cyc) (choose (eqb n outsideWindow) aMissedSync nothing)
 ofFrame (SafeRead dest src cyc seq datl add) xs n =
     ofRequest (record { dest = dest; src = src; cyc = cyc; seq = seq; ask = reads datl add }) n
 ofFrame (SafeWrite dest src cyc seq datl add) xs n =

@@ -1,8 +1,8 @@
--- The numbers in the claim, written out from document 01 and not imported from the rules that the claim is about.
+-- The numbers in the claim, written out from documents 01 and 02 and not imported from the rules that the claim is about.
 -- proofs/SameNumbers joins them to the rules' own. Assumes nothing.
 use mathlib.Core.Bool.{Bool, _&&_, _||_}
 use mathlib.Core.List.{List}
-use Prim.Native.Nat.{ℕ, _+_, _-_, _%_}
+use Prim.Native.Nat.{ℕ, _+_, _-_, _/_, _%_, max}
 use lib.Dec.{eqb, leb}
 use lib.ListN.{length, getD}
 
@@ -37,7 +37,11 @@ image = 64
 abbrev pub isLimit : ℕ → Bool
 isLimit n = eqb n 16 || eqb n 64
 
--- the answers that the claim names: accepted; a write outside the rules; an unsound state
+-- w, the width of a sync's window: TCYC / 8 rounded down, at least 1
+abbrev pub window : ℕ → ℕ
+window t = max 1 (t / 8)
+
+-- the answers that the claim names: accepted; a write outside the rules; an unsound state; a sync outside its window
 abbrev pub accepted : ℕ
 accepted = 0
 
@@ -46,6 +50,9 @@ outsideRules = 16
 
 abbrev pub unsound : ℕ
 unsound = 19
+
+abbrev pub outsideWindow : ℕ
+outsideWindow = 22
 
 -- accepted: answered 0
 abbrev pub isAccepted : ℕ → Bool

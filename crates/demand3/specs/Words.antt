@@ -6,7 +6,7 @@ use mathlib.Core.Path.{_≡_}
 use Prim.Native.Nat.{ℕ, _+_, _*_, _%_, _≤_}
 use lib.Dec.{eqb}
 use Rattle.base.specs.Choice.{choose}
-use Rattle.demand3.specs.Events.{Event, aTick, aSync, aRequest, aRefusedWrite, anAssignment, nothing, ordersRelease, writesOutputs, Request}
+use Rattle.demand3.specs.Events.{Event, aTick, aSync, aMissedSync, aRequest, aRefusedWrite, anAssignment, nothing, ordersRelease, writesOutputs, Request}
 use Rattle.demand3.specs.History.{History, powerOn, _▸_, Entry}
 use Rattle.demand3.specs.Numbers.{inRun, inFallback, firstSeq}
 
@@ -21,6 +21,7 @@ SyncOf = ℕ × ℕ
 abbrev pub syncAfter : Event → Option SyncOf → Option SyncOf
 syncAfter aTick y = y
 syncAfter (aSync src cyc) y = some (src, cyc)
+syncAfter aMissedSync y = y
 syncAfter (aRequest r) y = y
 syncAfter (aRefusedWrite r) y = y
 syncAfter (anAssignment sid) y = y
@@ -34,6 +35,7 @@ lastSync (h ▸ e) = syncAfter (event e) (lastSync h)
 abbrev pub sidAfter : Event → Option ℕ → Option ℕ
 sidAfter aTick i = i
 sidAfter (aSync src cyc) i = i
+sidAfter aMissedSync i = i
 sidAfter (aRequest r) i = i
 sidAfter (aRefusedWrite r) i = i
 sidAfter (anAssignment sid) none = some sid
@@ -48,6 +50,7 @@ ownSid (h ▸ e) = sidAfter (event e) (ownSid h)
 abbrev pub takenAfter : Event → List ℕ → List ℕ
 takenAfter aTick l = l
 takenAfter (aSync src cyc) l = []
+takenAfter aMissedSync l = l
 takenAfter (aRequest r) l = r .seq ∷ l
 takenAfter (aRefusedWrite r) l = r .seq ∷ l
 takenAfter (anAssignment sid) l = l
@@ -80,6 +83,7 @@ AllDiffer (x ∷ l) = Differs x l × AllDiffer l
 abbrev pub silenceAfter : Event → ℕ → ℕ
 silenceAfter aTick x = x + 1
 silenceAfter (aSync src cyc) x = 0
+silenceAfter aMissedSync x = x
 silenceAfter (aRequest r) x = x
 silenceAfter (aRefusedWrite r) x = x
 silenceAfter (anAssignment sid) x = x
@@ -93,6 +97,7 @@ silence (h ▸ e) = silenceAfter (event e) (silence h)
 abbrev pub idleInRun : Event → ℕ → ℕ
 idleInRun aTick x = x + 1
 idleInRun (aSync src cyc) x = x
+idleInRun aMissedSync x = x
 idleInRun (aRequest r) x = choose (writesOutputs (r .ask)) 0 x
 idleInRun (aRefusedWrite r) x = x
 idleInRun (anAssignment sid) x = x
@@ -104,6 +109,22 @@ idleAfter before after v x = choose (eqb before inRun) (idleInRun v x) (choose (
 abbrev pub idle : History → ℕ
 idle powerOn = 0
 idle (h ▸ e) = idleAfter (e .before .mode) (e .after .mode) (event e) (idle h)
+
+-- ticks since the first sync that was refused with 22 after the last accepted sync; none if there is no such sync
+abbrev pub missedAfter : Event → Option ℕ → Option ℕ
+missedAfter aTick none = none
+missedAfter aTick (some x) = some (x + 1)
+missedAfter (aSync src cyc) y = none
+missedAfter aMissedSync none = some 0
+missedAfter aMissedSync (some x) = some x
+missedAfter (aRequest r) y = y
+missedAfter (aRefusedWrite r) y = y
+missedAfter (anAssignment sid) y = y
+missedAfter nothing y = y
+
+abbrev pub missed : History → Option ℕ
+missed powerOn = none
+missed (h ▸ e) = missedAfter (event e) (missed h)
 
 -- a call that takes the module from RUN into fallback, and one that takes it from fallback to RUN
 pub record LeavesRun (e : Entry) : Type 0 where
@@ -124,6 +145,20 @@ pub record TickAtCommandLimit (h : History) (e : Entry) : Type 0 where
   pub tick : event e ≡ aTick
   pub run : e .before .mode ≡ inRun
   pub limit : e .before .m * e .before .t ≤ idle (h ▸ e)
+
+-- a tick at the window's limit: with it there were at least t ticks since a sync was refused with 22, and none was accepted since
+pub record TickAtWindowLimit (h : History) (e : Entry) : Type 0 where
+  pub ticks : ℕ
+  pub tick : event e ≡ aTick
+  pub since : missed (h ▸ e) ≡ some ticks
+  pub limit : e .before .t ≤ ticks
+
+-- an accepted sync to a module in RUN
+pub record SyncInRun (e : Entry) : Type 0 where
+  pub src : ℕ
+  pub cyc : ℕ
+  pub sync : event e ≡ aSync src cyc
+  pub run : e .before .mode ≡ inRun
 
 -- a release order was accepted, and since then the module did not leave RUN and no tick was at the sync limit
 pub data Released : History → Type 0 where

@@ -56,6 +56,7 @@ good-tid a tid g ok =
         e-most = p .e-most;
         last-is = p .last-is;
         heard-is = p .heard-is;
+        mark-is = p .mark-is;
         by-mode = mode-kept r q (a .silence) (a .idle) (a .last) (a .mode)
             record { rep = o outRep tt; t = o tcyc tt; m = o cnfRep tt; n = o cnfCyc tt }
             (ap (λ (x : ℕ). bitAnd x 0xC0) (o statut tt))
@@ -94,6 +95,7 @@ module _ (a : Agent) (src : ℕ) (g : GoodTo 254 a) (few : a .count < 8) (someon
           e-most = p .e-most;
           last-is = last-more;
           heard-is = p .heard-is;
+          mark-is = p .mark-is;
           by-mode = p .by-mode;
         };
         registers = g .registers;
@@ -120,6 +122,7 @@ module _ (a : Agent) (src : ℕ) (g : GoodTo 254 a) (few : a .count < 8) (someon
           e-most = p .e-most;
           last-is = last-more;
           heard-is = p .heard-is;
+          mark-is = p .mark-is;
           by-mode = mode-kept r q (a .silence) (a .idle) (a .last) (a .mode) l (ap (λ (x : ℕ). bitAnd x 0xC0) (o statut tt))
               (λ i h. same-behind 0x14 0x17 r q o (outputsAt + i) (omega arith)) (p .by-mode);
         };

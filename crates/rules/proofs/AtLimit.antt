@@ -50,7 +50,7 @@ module _ (port : ℕ) (a : Agent) (dest src cyc seq : ℕ) (ask : Ask) (p : IsDu
 -- another limit, and another k
 abbrev pub relimited : Fixed → ℕ → Agent → Agent
 relimited f k a =
-    record { regs = a .regs; known = a .known; last = a .last; silence = a .silence; idle = a .idle; cycle = a .cycle; elapsed = a .elapsed; taken = k; mode = a .mode; heard = a .heard; count = a .count; fixed = f }
+    record { regs = a .regs; known = a .known; last = a .last; silence = a .silence; idle = a .idle; cycle = a .cycle; elapsed = a .elapsed; taken = k; mode = a .mode; heard = a .heard; mark = a .mark; count = a .count; fixed = f }
 
 pub sound-relimited : (a : Agent) (f : Fixed) (k : ℕ) → sound a ≡ true → fits f ≡ true → k ≤ f .limit → sound (relimited f k a) ≡ true
 sound-relimited a f k s e h =
@@ -64,5 +64,6 @@ sound-relimited a f k s e h =
       e-most = p .e-most;
       last-is = p .last-is;
       heard-is = p .heard-is;
+      mark-is = p .mark-is;
       by-mode = p .by-mode;
     }

@@ -14,8 +14,8 @@ use Rattle.base.specs.Choice.{within}
 use Rattle.base.proofs.Choosing.{never, or-left-false, or-right-false}
 use Rattle.base.proofs.Stored.{stored-before, stored-behind}
 use Rattle.rules.specs.Fallback.{withheld, enterFallback}
-use Rattle.rules.specs.Marks.{counter, lineMarked, formatMarked, sequenceMarked}
-use Rattle.rules.specs.Refusals.{Change, nothing, lineMark, formatMark, sequenceMark, sequenceFall, oneTaken, changed, namesRegister, ButFor}
+use Rattle.rules.specs.Marks.{counter, lineMarked, formatMarked, sequenceMarked, windowMarked}
+use Rattle.rules.specs.Refusals.{Change, nothing, lineMark, formatMark, sequenceMark, sequenceFall, windowMark, oneTaken, changed, namesRegister, ButFor}
 use Rattle.rules.specs.Registers.{outRep, statut, cptSeq, cptFor, outputsAt, image}
 use Rattle.rules.specs.State.{reg, store, withRegs}
 use Rattle.rules.specs.declared.Agent.{Agent}
@@ -50,6 +50,10 @@ module _ (a : Agent) where
       other-stored cptSeq (counter (reg a cptSeq)) (store statut (bitOr (reg a statut) 0x02) a) i h
       ∙ other-stored statut (bitOr (reg a statut) 0x02) a i e
 
+  window-others : (i : ℕ) → eqb i statut ≡ false → reg (windowMarked a) i ≡ reg a i
+  unfolding windowMarked
+  window-others i e = other-stored statut (bitOr (reg a statut) 0x02) a i e
+
   pub fallback-others : (i : ℕ) → eqb i statut ≡ false → eqb i outRep ≡ false → within 0x80 0xBF i ≡ false → reg (enterFallback a) i ≡ reg a i
   unfolding enterFallback
   fallback-others i e h k =
@@ -66,6 +70,7 @@ only-registers c a r h l = record {
   mode = λ e. refl;
   q = λ e. refl;
   k = λ e. refl;
+  mark = λ e. refl;
   c = refl;
   heard = refl;
   e = refl;
@@ -87,6 +92,10 @@ module _ (a : Agent) where
       length-sets (store statut (bitOr (reg a statut) 0x02) a .regs) cptSeq (counter (reg a cptSeq) ∷ [])
       ∙ length-sets (a .regs) statut (bitOr (reg a statut) 0x02 ∷ [])
 
+  window-size : length (windowMarked a .regs) ≡ length (a .regs)
+  unfolding windowMarked
+  window-size = length-sets (a .regs) statut (bitOr (reg a statut) 0x02 ∷ [])
+
   fallen-size : length (enterFallback a .regs) ≡ length (a .regs)
   unfolding enterFallback
   fallen-size =
@@ -107,7 +116,7 @@ module _ (a : Agent) where
 
 module _ (a : Agent) where
   pub but-for : (c : Change) → ButFor c a (changed c a)
-  unfolding lineMarked formatMarked sequenceMarked enterFallback
+  unfolding lineMarked formatMarked sequenceMarked windowMarked enterFallback
   but-for nothing = only-registers nothing a (a .regs) (λ i e. refl) refl
   but-for lineMark = only-registers lineMark a (lineMarked a .regs) (line-others a) (line-size a)
   but-for formatMark =
@@ -119,6 +128,23 @@ module _ (a : Agent) where
     mode = λ e. never (sym e);
     q = λ e. never (sym e);
     k = λ e. refl;
+    mark = λ e. never (sym e);
+    c = refl;
+    heard = refl;
+    e = refl;
+    s = refl;
+    last-source = refl;
+    recorded = refl;
+    recorded-count = refl;
+    fixed = refl;
+  }
+  but-for windowMark = record {
+    registers = window-others a;
+    size = window-size a;
+    mode = λ e. refl;
+    q = λ e. refl;
+    k = λ e. refl;
+    mark = λ e. never (sym e);
     c = refl;
     heard = refl;
     e = refl;
@@ -134,6 +160,7 @@ module _ (a : Agent) where
     mode = λ e. refl;
     q = λ e. refl;
     k = λ e. never (sym e);
+    mark = λ e. refl;
     c = refl;
     heard = refl;
     e = refl;

@@ -16,7 +16,7 @@ use Rattle.rules.specs.Fallback.{released, withheld, enterFallback, ente
 use Rattle.rules.specs.Registers.{outRep, statut, outputsAt, image}
 use Rattle.rules.specs.State.{running, reg, tOf}
 use Rattle.rules.specs.Sync.{heardSync, synced}
-use Rattle.rules.specs.Tick.{counted, syncLimit, commandLimit, limited, cycleEnded, ticked}
+use Rattle.rules.specs.Tick.{counted, syncLimit, commandLimit, windowLimit, limited, cycleEnded, ticked}
 use Rattle.rules.specs.declared.Agent.{Agent}
 use Rattle.rules.proofs.QuietBits.{quiet-fallback, quiet-run, quiet-cleared}
 
@@ -100,7 +100,8 @@ module _ (a : Agent) where
   unfolding limited counted
   calm-limited =
       by-test (λ (b : Agent). Calm (a .regs) (b .regs)) (syncLimit (counted a)) (λ e. calm-fallen (counted a))
-      (λ e. by-test (λ (b : Agent). Calm (a .regs) (b .regs)) (commandLimit (counted a)) (λ h. calm-fallen (counted a)) (λ h. calm-same (a .regs)))
+      (λ e. by-test (λ (b : Agent). Calm (a .regs) (b .regs)) (commandLimit (counted a)) (λ h. calm-fallen (counted a))
+      (λ h. by-test (λ (b : Agent). Calm (a .regs) (b .regs)) (windowLimit (counted a)) (λ w. calm-fallen (counted a)) (λ w. calm-same (a .regs))))
 
   pub calm-ticked : Calm (a .regs) (ticked a .regs)
   unfolding ticked cycleEnded

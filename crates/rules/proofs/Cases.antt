@@ -21,7 +21,7 @@ use Rattle.frame_forms.specs.declared.Read.{Read}
 use Rattle.frame_forms.specs.declared.Read.the-variants.{Valid, Kind, Form, Check}
 use Rattle.frame_writing.specs.Writing.{frameLine}
 use Rattle.frame_reading.proofs.Receiving.{appIn}
-use Rattle.rules.specs.Answers.{accepted, bodyLength, stuffing, unstuffedLength, fcs, reserved, elsewhere, typ, form, crc, source, addressee, cycle, repeat, outOfOrder, tooMany, outsideRules, notAllowed, eightOthers, unsound, replyRoom, hostInput}
+use Rattle.rules.specs.Answers.{accepted, bodyLength, stuffing, unstuffedLength, fcs, reserved, elsewhere, typ, form, crc, source, addressee, cycle, repeat, outOfOrder, tooMany, outsideRules, notAllowed, eightOthers, unsound, replyRoom, hostInput, outsideWindow}
 use Rattle.rules.specs.Assignments.{assignable, onTid, onFirstSid, onLaterSid, onSid}
 use Rattle.rules.specs.Calls.{leastRoom, tickCall, frameCall, Call, tick, frame, act}
 use Rattle.rules.specs.Fixed.{limitOf}
@@ -29,7 +29,7 @@ use Rattle.rules.specs.FrameCall.{onKind, onRead, isOwn, onApp, onVerdic
 use Rattle.rules.specs.Inputs.{withInputs}
 use Rattle.rules.specs.Registers.{macAt, iidAt, tidAt, sidAt, statut, adRef, szRef, image, lowBytes, lowNumber}
 use Rattle.rules.specs.Marks.{sequenceMarked}
-use Rattle.rules.specs.Refusals.{sequenceFall, changed, rowOf, readOf, isSync, readsSync}
+use Rattle.rules.specs.Refusals.{sequenceFall, windowMark, changed, rowOf, readOf, isSync, readsSync}
 use Rattle.rules.specs.Replies.{Outcome, outcome, does, syncReply, readReply, acknowledges, muted, replyData, sendReply, sent, sendFrame}
 use Rattle.rules.specs.Requests.{distance, Ask, reads, writes, onAsk, onDistance, onRequest}
 use Rattle.rules.specs.Sound.{sound}
@@ -37,6 +37,7 @@ use Rattle.rules.specs.Sources.{isRecorded, recorded, sidOf}
 use Rattle.rules.specs.State.{isHeard, nobody, running, reg, store, storeAll, withTaken}
 use Rattle.rules.specs.Sync.{isRepeat, cycleFits, synced, onSync}
 use Rattle.rules.specs.Tick.{ticked}
+use Rattle.rules.specs.Window.{inWindow}
 use Rattle.rules.specs.Writes.{spanOf, allowed, written, onWrite}
 use Rattle.rules.specs.declared.Agent.{Agent}
 use Rattle.rules.specs.declared.Deed.{Deed}
@@ -60,6 +61,7 @@ pub record Hears (a : Agent) (src cyc : ℕ) : Type 0 where
   pub somebody : src ≡ nobody → ⊥
   pub fresh : isRepeat a src cyc ≡ false
   pub fits : (running a && not (cycleFits a cyc)) ≡ false
+  pub timely : (running a && not (inWindow a cyc)) ≡ false
 
 -- a request with the number due: from the source and with the cycle of the last accepted sync, to the own SID
 pub record IsDue (a : Agent) (dest src cyc seq : ℕ) : Type 0 where
@@ -93,6 +95,7 @@ pub data KindCase (a : Agent) : Frame → List ℕ → Deed → Type 0 where
   refuses : {f : Frame} {xs : List ℕ} (n : ℕ) → isMarking (isSync f && running a) n ≡ true
       → KindCase a f xs (does n (changed (rowOf (isSync f && running a) n) a))
   fell : {src cyc : ℕ} {xs : List ℕ} → (running a && not (cycleFits a cyc)) ≡ true → KindCase a (Sync src cyc) xs (does cycle (changed sequenceFall a))
+  missed : {src cyc : ℕ} {xs : List ℕ} → (running a && not (inWindow a cyc)) ≡ true → KindCase a (Sync src cyc) xs (does outsideWindow (changed windowMark a))
   outside : {dest src cyc seq datl add : ℕ} {xs : List ℕ} → Passes a dest src cyc seq
       → KindCase a (SafeWrite dest src cyc seq datl add) xs (does outsideRules (takenBy seq cyc a))
   accepts : {f : Frame} {xs : List ℕ} {b : Agent} {r : Reply} → Accepts a f xs b → KindCase a f xs (record { answer = accepted; agent = b; reply = r })
@@ -157,13 +160,15 @@ module _ (port : ℕ) (a : Agent) where
       unless (eqb src nobody || not (isRecorded a src)) (refuses source refl)
       (λ p. unless (isRepeat a src cyc) (refuses repeat refl)
       (λ q. by-test (KindCase a (Sync src cyc) xs) (running a && not (cycleFits a cyc)) (λ e. fell e)
-      (λ r. let h : Hears a src cyc = record {
+      (λ r. by-test (KindCase a (Sync src cyc) xs) (running a && not (inWindow a cyc)) (λ e. missed e)
+      (λ w. let h : Hears a src cyc = record {
         known = not-false _ (or-right-false (eqb src nobody) _ p);
         somebody = eqb-false src nobody (or-left-false (eqb src nobody) _ p);
         fresh = q;
         fits = r;
+        timely = w;
       } in
-      by-test (KindCase a (Sync src cyc) xs) (eqb (reg b szRef) 0 || eqb (reg b szRef) 255 || ltb 256 (reg b adRef + reg b szRef)) (λ e. accepts (heard h)) (λ e. accepts (heard h)))))
+      by-test (KindCase a (Sync src cyc) xs) (eqb (reg b szRef) 0 || eqb (reg b szRef) 255 || ltb 256 (reg b adRef + reg b szRef)) (λ e. accepts (heard h)) (λ e. accepts (heard h))))))
 
   read-case : (dest src cyc seq datl add : ℕ) (xs : List ℕ) → Passes a dest src cyc seq
       → KindCase a (SafeRead dest src cyc seq datl add) xs (readReply port (takenBy seq cyc a) src seq datl add)

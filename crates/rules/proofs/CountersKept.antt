@@ -14,7 +14,7 @@ use Rattle.base.proofs.Choosing.{by-test, never}
 use Rattle.base.proofs.Stored.{stored-before, stored-behind}
 use Rattle.frame_kinds.specs.declared.kinds.Frame.{Frame}
 use Rattle.frame_kinds.specs.declared.kinds.Frame.the-variants.{SafeWrite}
-use Rattle.rules.specs.Answers.{cycle, outsideRules, accepted}
+use Rattle.rules.specs.Answers.{cycle, outsideRules, outsideWindow, accepted}
 use Rattle.rules.specs.Calls.{Call, frame, act}
 use Rattle.rules.specs.Counters.{Brings, brings, as-before, written, Counts}
 use Rattle.rules.specs.Fallback.{withheld}
@@ -33,7 +33,7 @@ use Rattle.rules.specs.declared.Span.the-variants as span
 use Rattle.laying.specs.Laying.{lineWith}
 use Rattle.rules.proofs.ButFor.{other-stored}
 use Rattle.rules.proofs.Calm.{Calm, calm-same, calm-then, calm-before, calm-behind, calm-between, calm-fallen, quiet-sent, calm-synced, calm-ticked}
-use Rattle.rules.proofs.Cases.{Accepts, heard, read, wrote, renamed, first, again, later, KindCase, refuses, fell, outside, accepts, FrameCase, unread, readAs, CallCase, unsoundly, hosts, ticks, frames, call-case, by-sent}
+use Rattle.rules.proofs.Cases.{Accepts, heard, read, wrote, renamed, first, again, later, KindCase, refuses, fell, missed, outside, accepts, FrameCase, unread, readAs, CallCase, unsoundly, hosts, ticks, frames, call-case, by-sent}
 use Rattle.rules.proofs.RowKeeps.{Keeps, calmly, recounted, not-status, row-keeps}
 use Rattle.rules.proofs.Spans.{Placed, inside, span-placed}
 
@@ -83,6 +83,7 @@ module _ {a : Agent} {call : Call} where
   kind-keeps : {f : Frame} {xs : List ℕ} {d : Deed} → Brings call f xs → KindCase a f xs d → Keeps a call (d .answer) (d .agent)
   kind-keeps {f = f} w (refuses n h) = row-keeps a call n (isSync f && running a)
   kind-keeps w (fell e) = row-keeps a call cycle true
+  kind-keeps w (missed e) = row-keeps a call outsideWindow true
   kind-keeps w (outside p) = calmly call outsideRules (calm-same (a .regs))
   kind-keeps w (accepts c) = accepted-keeps w c
 

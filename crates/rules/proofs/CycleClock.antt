@@ -9,7 +9,7 @@ use Rattle.base.proofs.Choosing.{by-test, choose-true, choose-false}
 use Rattle.rules.specs.Fallback.{enterFallback}
 use Rattle.rules.specs.Registers.{tcyc}
 use Rattle.rules.specs.State.{unheard, tOf, withCycle}
-use Rattle.rules.specs.Tick.{counted, syncLimit, commandLimit, limited, cycleEnded, ticked}
+use Rattle.rules.specs.Tick.{counted, syncLimit, commandLimit, windowLimit, limited, cycleEnded, ticked}
 use Rattle.rules.specs.declared.Agent.{Agent}
 use Rattle.rules.proofs.ButFor.{fallback-others}
 
@@ -27,7 +27,8 @@ limited-clock : (a : Agent) → SameClock a (limited a)
 unfolding limited
 limited-clock a =
     by-test (SameClock a) (syncLimit a) (λ h. fallen-clock a)
-    (λ h. by-test (SameClock a) (commandLimit a) (λ k. fallen-clock a) (λ k. record { t = refl; e = refl; c = refl }))
+    (λ h. by-test (SameClock a) (commandLimit a) (λ k. fallen-clock a)
+    (λ k. by-test (SameClock a) (windowLimit a) (λ w. fallen-clock a) (λ w. record { t = refl; e = refl; c = refl })))
 
 module _ (a : Agent) where
   -- the agent that the end of the cycle is judged of

@@ -16,13 +16,13 @@ use Rattle.rules.specs.Fixed.{fits}
 use Rattle.rules.specs.Inputs.{withInputs}
 use Rattle.rules.specs.PowerUp.{powerUp}
 use Rattle.rules.specs.Registers.{outRep}
-use Rattle.rules.specs.Refusals.{sequenceFall, rowOf, readOf, isSync, readsSync}
+use Rattle.rules.specs.Refusals.{sequenceFall, windowMark, rowOf, readOf, isSync, readsSync}
 use Rattle.rules.specs.Replies.{Outcome, outcome}
 use Rattle.rules.specs.Sound.{sound}
 use Rattle.rules.specs.Sources.{recorded}
 use Rattle.rules.specs.State.{unheard, running, reg, tOf, withCycle, storeAll}
 use Rattle.rules.specs.Sync.{heardSync, synced}
-use Rattle.rules.specs.Tick.{syncLimit, commandLimit, counted, limited, cycleEnded, ticked}
+use Rattle.rules.specs.Tick.{syncLimit, commandLimit, windowLimit, counted, limited, cycleEnded, ticked}
 use Rattle.rules.specs.Writes.{spanOf, written}
 use Rattle.rules.specs.declared.Agent.{Agent}
 use Rattle.rules.specs.declared.Deed.{Deed}
@@ -30,7 +30,7 @@ use Rattle.rules.specs.declared.Fixed.{Fixed}
 use Rattle.rules.specs.declared.Span.{Span}
 use Rattle.rules.specs.declared.Span.the-variants.{Release, CycleTime, Limits, Counters, Config, Outputs, Outside}
 use Rattle.rules.proofs.ButFor.{but-for}
-use Rattle.rules.proofs.Cases.{takenBy, Accepts, heard, read, wrote, renamed, first, again, later, KindCase, refuses, fell, outside, accepts, FrameCase, unread, readAs, CallCase, unsoundly, hosts, ticks, frames, call-case, by-sent}
+use Rattle.rules.proofs.Cases.{takenBy, Accepts, heard, read, wrote, renamed, first, again, later, KindCase, refuses, fell, missed, outside, accepts, FrameCase, unread, readAs, CallCase, unsoundly, hosts, ticks, frames, call-case, by-sent}
 use Rattle.rules.proofs.SoundParts.{of-fixed, parts}
 
 -- what is fixed is the same in both
@@ -64,8 +64,9 @@ counted-same a = refl
 limited-same : (a : Agent) → Same a (limited a)
 unfolding limited enterFallback
 limited-same a =
-    either a (syncLimit a) (enterFallback a) (choose (commandLimit a) (enterFallback a) a) refl
-    (either a (commandLimit a) (enterFallback a) a refl refl)
+    either a (syncLimit a) (enterFallback a) (choose (commandLimit a) (enterFallback a) (choose (windowLimit a) (enterFallback a) a)) refl
+    (either a (commandLimit a) (enterFallback a) (choose (windowLimit a) (enterFallback a) a) refl
+    (either a (windowLimit a) (enterFallback a) a refl refl))
 
 ended-same : (a : Agent) → Same a (cycleEnded a)
 unfolding cycleEnded
@@ -92,6 +93,7 @@ module _ {a : Agent} where
   kind-same : {f : Frame} {xs : List ℕ} {d : Deed} → KindCase a f xs d → Same a (d .agent)
   kind-same {f = f} (refuses n h) = but-for a (rowOf (isSync f && running a) n) .fixed
   kind-same (fell e) = but-for a sequenceFall .fixed
+  kind-same (missed e) = but-for a windowMark .fixed
   kind-same (outside p) = refl
   kind-same (accepts c) = accepted-same c
 

@@ -13,7 +13,7 @@ use Rattle.rules.specs.Fixed.{limitOf}
 use Rattle.rules.specs.Good.{Good}
 use Rattle.rules.specs.Registers.{typAt, tidAt, outRep, statut, outputsAt, image}
 use Rattle.rules.specs.Sources.{isRecorded, sidOf}
-use Rattle.rules.specs.State.{inRun, inFallback, isHeard, unheard, nobody, reg, tOf, nOf, mOf}
+use Rattle.rules.specs.State.{inRun, inFallback, isHeard, unheard, isMarked, unmarked, nobody, reg, tOf, nOf, mOf}
 use Rattle.rules.specs.declared.Agent.{Agent}
 use Rattle.rules.proofs.Parts.{Running, Resting, SoundParts}
 use Rattle.rules.proofs.Recorded.{holds-where}
@@ -61,6 +61,9 @@ module _ (a : Agent) (g : Good a) where
 
   pub good-heard : (a .heard ≡ isHeard) ⊎ (a .heard ≡ unheard)
   good-heard = good-sound .heard-is
+
+  pub good-mark : (a .mark ≡ isMarked) ⊎ (a .mark ≡ unmarked)
+  good-mark = good-sound .mark-is
 
   -- ---- the recorded
   pub good-few : a .count ≤ 8

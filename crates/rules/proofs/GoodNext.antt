@@ -26,11 +26,11 @@ use Rattle.rules.specs.Writes.{spanOf}
 use Rattle.rules.specs.declared.Agent.{Agent}
 use Rattle.rules.specs.declared.Deed.{Deed}
 use Rattle.rules.proofs.Assigning.{good-tid, good-later, good-first}
-use Rattle.rules.proofs.Cases.{takenBy, Passes, Accepts, heard, read, wrote, renamed, first, again, later, KindCase, refuses, fell, outside, accepts, FrameCase, unread, readAs, CallCase, unsoundly, hosts, ticks, frames, call-case, by-sent}
+use Rattle.rules.proofs.Cases.{takenBy, Passes, Accepts, heard, read, wrote, renamed, first, again, later, KindCase, refuses, fell, missed, outside, accepts, FrameCase, unread, readAs, CallCase, unsoundly, hosts, ticks, frames, call-case, by-sent}
 use Rattle.rules.proofs.Hearing.{good-synced}
 use Rattle.rules.proofs.Kept.{GoodTo, good-counting}
 use Rattle.rules.proofs.MarkSteps.{sequence-marks, row-marks}
-use Rattle.rules.proofs.Marking.{good-inputs, good-marks, good-sent}
+use Rattle.rules.proofs.Marking.{good-inputs, good-marks, good-missed, good-sent}
 use Rattle.rules.proofs.Modes.{good-fallen}
 use Rattle.rules.proofs.Recorded.{holds-empty}
 use Rattle.rules.proofs.ServedFrames.{reads-frame}
@@ -56,7 +56,7 @@ module _ {a : Agent} (g : GoodTo 254 a) where
   good-taken : {dest src cyc seq : ℕ} → Passes a dest src cyc seq → GoodTo 254 (takenBy seq cyc a)
   good-taken h =
       let p = g .parts in
-      good-counting 254 254 a g (omega (arith, h .is-due .due, h .few)) (p .e-most) (p .last-is) (p .heard-is) (p .by-mode)
+      good-counting 254 254 a g (omega (arith, h .is-due .due, h .few)) (p .e-most) (p .last-is) (p .heard-is) (p .mark-is) (p .by-mode)
 
   good-accepted : {f : Frame} {xs : List ℕ} {b : Agent} → FittingFrame f → Bytes xs → Accepts a f xs b → GoodTo 254 b
   unfolding isRecorded
@@ -73,6 +73,7 @@ module _ {a : Agent} (g : GoodTo 254 a) where
   good-kind : {f : Frame} {xs : List ℕ} {d : Deed} → FittingFrame f → Bytes xs → KindCase a f xs d → GoodTo 254 (d .agent)
   good-kind {f = f} h b (refuses n e) = good-marks 254 g (row-marks a (isSync f && running a) n e)
   good-kind h b (fell e) = good-fallen 254 (sequenceMarked a) (good-marks 254 g (sequence-marks a))
+  good-kind h b (missed e) = good-missed 254 a g
   good-kind h b (outside p) = good-taken p
   good-kind h b (accepts c) = good-accepted h b c
 

@@ -122,6 +122,7 @@ module _ (mac iid ver : ℕ) where
       e-most = omega arith;
       last-is = inr (refl, refl);
       heard-is = inr refl;
+      mark-is = inr refl;
       by-mode = record {
         mode-is = inr refl;
         in-run = λ m. absurd (omega (arith, m));

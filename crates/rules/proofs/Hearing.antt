@@ -1,7 +1,7 @@
 -- An accepted sync from a recorded source makes a good agent of a good one. Assumes nothing.
 use mathlib.Core.Path.{_≡_, refl}
 use mathlib.Core.Bool.{true, not, _&&_}
-use mathlib.Core.Logic.{inl}
+use mathlib.Core.Logic.{inl, inr}
 use Prim.Native.Nat.{ℕ, _*_, _<_}
 use native.Mathlib.Omega.{arith}
 use borrow.Author.Tests.{eqb-true}
@@ -32,7 +32,7 @@ module _ (a : Agent) (src cyc : ℕ) (g : GoodTo 254 a) (known : holds (a .known
 
   good-heard : GoodTo 254 (heardSync src cyc a)
   unfolding heardSync
-  good-heard = good-counting 254 254 a g (omega arith) (omega arith) (inl known) (inl refl) heard-mode
+  good-heard = good-counting 254 254 a g (omega arith) (omega arith) (inl known) (inl refl) (inr refl) heard-mode
 
   pub good-synced : GoodTo 254 (synced src cyc a)
   unfolding synced heardSync

@@ -13,7 +13,7 @@ use Rattle.base.proofs.Stored.{stored-in, stored-bytes}
 use Rattle.rules.specs.Fallback.{released}
 use Rattle.rules.specs.Fixed.{limitOf}
 use Rattle.rules.specs.Registers.{typAt, tidAt, sidAt, outRep, tcyc, statut, cnfRep, cnfCyc, outputsAt, image, lowNumber}
-use Rattle.rules.specs.State.{isHeard, unheard, nobody, withRegs}
+use Rattle.rules.specs.State.{isHeard, unheard, isMarked, unmarked, nobody, withRegs}
 use Rattle.rules.specs.declared.Agent.{Agent}
 use Rattle.rules.proofs.Parts.{modeBits, Settings, Named, LastIs, Running, ModeParts, PartsTo}
 
@@ -134,6 +134,7 @@ parts-kept most a q f p = record {
   e-most = p .e-most;
   last-is = p .last-is;
   heard-is = p .heard-is;
+  mark-is = p .mark-is;
   by-mode = mode-kept (a .regs) q (a .silence) (a .idle) (a .last) (a .mode) (f .same .limits) (f .bits) (f .outputs) (p .by-mode);
 }
 
@@ -155,14 +156,14 @@ pub good-kept : (most : ℕ) (a : Agent) (q : List ℕ) → SameFor (a .regs) q 
 good-kept most a q f z g = record { parts = parts-kept most a q f (g .parts); registers = z; places = g .places }
 
 -- ---- other counters, flags and last source
-abbrev counting : Agent → ℕ → ℕ → ℕ → ℕ → ℕ → ℕ → ℕ → ℕ → Agent
-counting a last s q c e k mode heard =
-    record { regs = a .regs; known = a .known; last = last; silence = s; idle = q; cycle = c; elapsed = e; taken = k; mode = mode; heard = heard; count = a .count; fixed = a .fixed }
+abbrev counting : Agent → ℕ → ℕ → ℕ → ℕ → ℕ → ℕ → ℕ → ℕ → ℕ → Agent
+counting a last s q c e k mode heard mark =
+    record { regs = a .regs; known = a .known; last = last; silence = s; idle = q; cycle = c; elapsed = e; taken = k; mode = mode; heard = heard; mark = mark; count = a .count; fixed = a .fixed }
 
-pub good-counting : (most later : ℕ) (a : Agent) {last s q c e k mode heard : ℕ} → GoodTo most a → k ≤ limitOf a → e ≤ later
-    → LastIs (a .known) (a .count) last heard → (heard ≡ isHeard) ⊎ (heard ≡ unheard) → ModeParts (a .regs) s q last mode
-    → GoodTo later (counting a last s q c e k mode heard)
-good-counting most later a g hk he hl hh hm = record {
+pub good-counting : (most later : ℕ) (a : Agent) {last s q c e k mode heard mark : ℕ} → GoodTo most a → k ≤ limitOf a → e ≤ later
+    → LastIs (a .known) (a .count) last heard → (heard ≡ isHeard) ⊎ (heard ≡ unheard) → (mark ≡ isMarked) ⊎ (mark ≡ unmarked)
+    → ModeParts (a .regs) s q last mode → GoodTo later (counting a last s q c e k mode heard mark)
+good-counting most later a g hk he hl hh hr hm = record {
   parts = record {
     settings = g .parts .settings;
     sources = g .parts .sources;
@@ -172,6 +173,7 @@ good-counting most later a g hk he hl hh hm = record {
     e-most = he;
     last-is = hl;
     heard-is = hh;
+    mark-is = hr;
     by-mode = hm;
   };
   registers = g .registers;

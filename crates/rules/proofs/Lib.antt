@@ -1,4 +1,5 @@
 pub mod BusTraps
+pub mod Windows
 pub mod MarkSteps
 pub mod Cases
 pub mod ButFor

@@ -12,8 +12,8 @@ use lib.Seq.{length-sets, getD-set-same}
 use Rattle.base.proofs.Choosing.{never}
 use Rattle.base.proofs.Stored.{stored-before}
 use Rattle.rules.specs.Fallback.{withheld, enterFallback}
-use Rattle.rules.specs.Marks.{counter, lineMarked, formatMarked, sequenceMarked}
-use Rattle.rules.specs.Refusals.{Change, nothing, lineMark, formatMark, sequenceMark, sequenceFall, oneTaken, namesMode, namesTaken, changed, statusBy, raises, Makes}
+use Rattle.rules.specs.Marks.{counter, lineMarked, formatMarked, sequenceMarked, windowMarked}
+use Rattle.rules.specs.Refusals.{Change, nothing, lineMark, formatMark, sequenceMark, sequenceFall, windowMark, oneTaken, namesMode, namesTaken, namesMark, changed, statusBy, raises, Makes}
 use Rattle.rules.specs.Registers.{outRep, statut, cptSeq, cptFor, outputsAt, image}
 use Rattle.rules.specs.State.{reg, store}
 use Rattle.rules.specs.declared.Agent.{Agent}
@@ -62,16 +62,17 @@ module _ (a : Agent) (size : length (a .regs) ≡ 256) where
       stored-before (store outRep withheld (store statut x a) .regs) outputsAt (replicate image 0) outRep (omega arith)
       ∙ stored-there outRep withheld (store statut x a) (omega (arith, size, length-sets (a .regs) statut (x ∷ [])))
 
--- a change that names neither mode nor k
-only-marks : (c : Change) (a b : Agent) → namesMode c ≡ false → namesTaken c ≡ false → reg b statut ≡ statusBy c (reg a statut)
-    → ((i : ℕ) → raises c i ≡ true → reg b i ≡ counter (reg a i)) → Makes c a b
-only-marks c a b m t e h = record {
+-- a change that names neither mode nor k nor the mark
+only-marks : (c : Change) (a b : Agent) → namesMode c ≡ false → namesTaken c ≡ false → namesMark c ≡ false
+    → reg b statut ≡ statusBy c (reg a statut) → ((i : ℕ) → raises c i ≡ true → reg b i ≡ counter (reg a i)) → Makes c a b
+only-marks c a b m t r e h = record {
   status = e;
   counters = h;
   fallback = λ x. never (sym m ∙ x);
   not-released = λ x. never (sym m ∙ x);
   outputs = λ x. never (sym m ∙ x);
   k = λ x. never (sym t ∙ x);
+  mark = λ x. never (sym r ∙ x);
 }
 
 -- at one counter
@@ -91,16 +92,30 @@ module _ (a : Agent) (size : length (a .regs) ≡ 256) where
         not-released = λ e. fallen-release b l;
         outputs = λ e. fallback-clears b l;
         k = never;
+        mark = λ e. refl;
       }
 
+  window-makes : Makes windowMark a (windowMarked a)
+  unfolding windowMarked
+  window-makes = record {
+    status = stored-there statut (bitOr (reg a statut) 0x02) a (omega (arith, size));
+    counters = λ i. never;
+    fallback = never;
+    not-released = never;
+    outputs = λ e. never e;
+    k = never;
+    mark = λ e. refl;
+  }
+
   pub makes : (c : Change) → Makes c a (changed c a)
-  makes nothing = only-marks nothing a a refl refl refl (λ i. never)
-  makes lineMark = only-marks lineMark a (lineMarked a) refl refl (line-status a size) (λ i. never)
+  makes nothing = only-marks nothing a a refl refl refl refl (λ i. never)
+  makes lineMark = only-marks lineMark a (lineMarked a) refl refl refl (line-status a size) (λ i. never)
   makes formatMark =
-      only-marks formatMark a (formatMarked a) refl refl (format-status a size) (at-counter a (formatMarked a) cptFor (format-counter a size))
+      only-marks formatMark a (formatMarked a) refl refl refl (format-status a size) (at-counter a (formatMarked a) cptFor (format-counter a size))
   makes sequenceMark =
-      only-marks sequenceMark a (sequenceMarked a) refl refl (sequence-status a size) (at-counter a (sequenceMarked a) cptSeq (sequence-counter a size))
+      only-marks sequenceMark a (sequenceMarked a) refl refl refl (sequence-status a size) (at-counter a (sequenceMarked a) cptSeq (sequence-counter a size))
   makes sequenceFall = fell-makes
+  makes windowMark = window-makes
   makes oneTaken = record {
     status = refl;
     counters = λ i. never;
@@ -108,4 +123,5 @@ module _ (a : Agent) (size : length (a .regs) ≡ 256) where
     not-released = never;
     outputs = λ e. never e;
     k = λ e. refl;
+    mark = never;
   }

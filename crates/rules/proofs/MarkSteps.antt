@@ -10,7 +10,7 @@ use Rattle.base.proofs.Choosing.{never, and-right}
 use Rattle.rules.specs.Answers.{bodyLength, eightOthers}
 use Rattle.rules.specs.Counters.{isCounter}
 use Rattle.rules.specs.Marks.{counter, lineMarked, formatMarked, sequenceMarked}
-use Rattle.rules.specs.Refusals.{Change, nothing, lineMark, formatMark, sequenceMark, sequenceFall, oneTaken, changed, rowOf}
+use Rattle.rules.specs.Refusals.{Change, nothing, lineMark, formatMark, sequenceMark, sequenceFall, windowMark, oneTaken, changed, rowOf}
 use Rattle.rules.specs.Registers.{statut, cptSeq, cptFor}
 use Rattle.rules.specs.State.{reg, store}
 use Rattle.rules.specs.declared.Agent.{Agent}
@@ -24,13 +24,14 @@ pub data Marks (a : Agent) : Agent → Type 0 where
   sets : {b : Agent} (m : ℕ) → isFlag m ≡ true → Marks a b → Marks a (store statut (bitOr (reg b statut) m) b)
   counts : {b : Agent} (i x : ℕ) → isCounter i ≡ true → Marks a b → Marks a (store i (counter x) b)
 
--- a change that only marks
+-- a change of STATUT and counters alone
 abbrev pub onlyMarks : Change → Bool
 onlyMarks nothing = true
 onlyMarks lineMark = true
 onlyMarks formatMark = true
 onlyMarks sequenceMark = true
 onlyMarks sequenceFall = false
+onlyMarks windowMark = false
 onlyMarks oneTaken = false
 
 -- 1 to 18, which frames cause
@@ -64,6 +65,7 @@ module _ (a : Agent) where
   change-marks formatMark e = format-marks
   change-marks sequenceMark e = sequence-marks
   change-marks sequenceFall e = never e
+  change-marks windowMark e = never e
   change-marks oneTaken e = never e
 
   pub row-marks : (syncInRun : Bool) (n : ℕ) → isMarking syncInRun n ≡ true → Marks a (changed (rowOf syncInRun n) a)

@@ -16,7 +16,7 @@ use Rattle.rules.specs.Sound.{sound}
 use Rattle.rules.specs.State.{running}
 use Rattle.rules.specs.declared.Agent.{Agent}
 use Rattle.rules.specs.declared.Deed.{Deed}
-use Rattle.rules.proofs.Cases.{isHosts, KindCase, refuses, fell, outside, accepts, FrameCase, unread, readAs, CallCase, unsoundly, hosts, ticks, frames, call-case, by-sent}
+use Rattle.rules.proofs.Cases.{isHosts, KindCase, refuses, fell, missed, outside, accepts, FrameCase, unread, readAs, CallCase, unsoundly, hosts, ticks, frames, call-case, by-sent}
 use Rattle.rules.proofs.MarkSteps.{isMarking, apart}
 
 abbrev Other : ℕ → Type 0
@@ -25,6 +25,7 @@ Other n = eqb n unsound ≡ false
 kind-other : {a : Agent} {f : Frame} {xs : List ℕ} {d : Deed} → KindCase a f xs d → Other (d .answer)
 kind-other {a = a} {f = f} (refuses n h) = apart (isMarking (isSync f && running a)) n unsound h refl
 kind-other (fell e) = refl
+kind-other (missed e) = refl
 kind-other (outside p) = refl
 kind-other (accepts c) = refl
 

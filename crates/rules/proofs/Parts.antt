@@ -12,7 +12,7 @@ use Rattle.rules.specs.Fallback.{released, withheld}
 use Rattle.rules.specs.Fixed.{lightingLimit, doorsLimit, limitOf}
 use Rattle.rules.specs.Registers.{typAt, tidAt, sidAt, outRep, tcyc, statut, cnfRep, cnfCyc, outputsAt, image, lowNumber}
 use Rattle.rules.specs.Sources.{holds}
-use Rattle.rules.specs.State.{inRun, inFallback, isHeard, unheard, nobody}
+use Rattle.rules.specs.State.{inRun, inFallback, isHeard, unheard, isMarked, unmarked, nobody}
 use Rattle.rules.specs.declared.Agent.{Agent}
 use Rattle.rules.specs.declared.Fixed.{Fixed}
 
@@ -74,6 +74,7 @@ pub record PartsTo (most : ℕ) (a : Agent) : Type 0 where
   pub e-most : a .elapsed ≤ most
   pub last-is : LastIs (a .known) (a .count) (a .last) (a .heard)
   pub heard-is : (a .heard ≡ isHeard) ⊎ (a .heard ≡ unheard)
+  pub mark-is : (a .mark ≡ isMarked) ⊎ (a .mark ≡ unmarked)
   pub by-mode : ModeParts (a .regs) (a .silence) (a .idle) (a .last) (a .mode)
 
 -- sound: e is at most 254

@@ -9,7 +9,7 @@ use borrow.Author.Tests.{eqb-true, leb-true, le-leb}
 use lib.Dec.{eqb, leb}
 use Rattle.base.proofs.Choosing.{never, and-left, and-right, and-true, or-cases}
 use Rattle.frame_kinds.specs.declared.kinds.Frame.{Frame}
-use Rattle.rules.specs.Answers.{accepted, bodyLength, eightOthers, cycle, elsewhere, crc, source, addressee, repeat, replyRoom, hostInput}
+use Rattle.rules.specs.Answers.{accepted, bodyLength, eightOthers, cycle, elsewhere, crc, source, addressee, repeat, replyRoom, hostInput, outsideWindow}
 use Rattle.rules.specs.Calls.{Call, frame, act}
 use Rattle.rules.specs.Refusals.{Change, nothing, isRefusal, rowOf, changed, leavesAll, readOf, isSync, readsSync, syncInRun, Refused}
 use Rattle.rules.specs.Replies.{Outcome, outcome, sent}
@@ -19,7 +19,7 @@ use Rattle.rules.specs.declared.Agent.{Agent}
 use Rattle.rules.specs.declared.Deed.{Deed}
 use Rattle.rules.specs.declared.Reply.the-variants.{Silent}
 use Rattle.rules.proofs.ButFor.{but-for}
-use Rattle.rules.proofs.Cases.{isHosts, KindCase, refuses, fell, outside, accepts, FrameCase, unread, readAs, CallCase, unsoundly, hosts, ticks, frames, call-case, by-sent, sent-silent}
+use Rattle.rules.proofs.Cases.{isHosts, KindCase, refuses, fell, missed, outside, accepts, FrameCase, unread, readAs, CallCase, unsoundly, hosts, ticks, frames, call-case, by-sent, sent-silent}
 use Rattle.rules.proofs.Makes.{makes}
 use Rattle.rules.proofs.MarkSteps.{onlyMarks, isFrames, isMarking}
 
@@ -35,8 +35,8 @@ record RefusedDeed (a : Agent) (sync : Bool) (d : Deed) : Type 0 where
 marking-number : (b : Bool) (n : ℕ) → isMarking b n ≡ true → isRefusal n ≡ true
 marking-number b n h =
     let e : isFrames n ≡ true = and-left (isFrames n) (onlyMarks (rowOf b n)) h in
-    let high : n ≤ hostInput = omega (arith, leb-true n eightOthers (and-right (leb bodyLength n) (leb n eightOthers) e)) in
-    and-true (leb bodyLength n) (leb n hostInput) (and-left (leb bodyLength n) (leb n eightOthers) e) (le-leb n hostInput high)
+    let high : n ≤ outsideWindow = omega (arith, leb-true n eightOthers (and-right (leb bodyLength n) (leb n eightOthers) e)) in
+    and-true (leb bodyLength n) (leb n outsideWindow) (and-left (leb bodyLength n) (leb n eightOthers) e) (le-leb n outsideWindow high)
 
 hosts-number : (n : ℕ) → isHosts n ≡ true → isRefusal n ≡ true
 hosts-number n h = or-cases (eqb n replyRoom) (eqb n hostInput) h (λ e. rw (eqb-true n replyRoom e) refl) (λ e. rw (eqb-true n hostInput e) refl)
@@ -48,6 +48,7 @@ module _ {a : Agent} where
   kind-refused (fell {cyc = cyc} e) z =
       let run : running a ≡ true = and-left (running a) (not (cycleFits a cyc)) e in
       record { number = refl; silent = refl; state = sym (ap (λ (b : Bool). changed (rowOf b cycle) a) run) }
+  kind-refused (missed e) z = record { number = refl; silent = refl; state = refl }
   kind-refused (outside p) z = record { number = refl; silent = refl; state = ap (λ (k : ℕ). withTaken (k + 1) a) (p .is-due .due) }
   kind-refused (accepts c) z = absurd (z refl)
 

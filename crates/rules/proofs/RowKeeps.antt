@@ -11,8 +11,8 @@ use lib.Dec.{eqb}
 use Rattle.rules.specs.Answers.{typ, cycle, outOfOrder}
 use Rattle.rules.specs.Calls.{Call}
 use Rattle.rules.specs.Counters.{isCounter, Counter, as-before, written, out-of-sequence, not-served, quietBits}
-use Rattle.rules.specs.Marks.{counter, lineMarked, formatMarked, sequenceMarked}
-use Rattle.rules.specs.Refusals.{lineMark, formatMark, sequenceMark, rowOf, changed}
+use Rattle.rules.specs.Marks.{counter, lineMarked, formatMarked, sequenceMarked, windowMarked}
+use Rattle.rules.specs.Refusals.{lineMark, formatMark, sequenceMark, windowMark, rowOf, changed}
 use Rattle.rules.specs.Registers.{statut, cptSeq, cptFor}
 use Rattle.rules.specs.State.{reg, store}
 use Rattle.rules.specs.declared.Agent.{Agent}
@@ -49,6 +49,10 @@ module _ (a : Agent) where
       let x : ℕ = bitOr (reg a statut) 0x02 in
       ap (λ (x : ℕ). bitAnd x 0x1D) (other-stored cptSeq (counter (reg a cptSeq)) (store statut x a) statut refl)
       ∙ calm-status (a .regs) x (quiet-sequence (reg a statut)) .bits
+
+  window-quiet : quietBits (windowMarked a) ≡ quietBits a
+  unfolding windowMarked
+  window-quiet = calm-status (a .regs) (bitOr (reg a statut) 0x02) (quiet-sequence (reg a statut)) .bits
 
 -- what a deed leaves, before its reply is sent
 pub record Keeps (a : Agent) (call : Call) (n : ℕ) (b : Agent) : Type 0 where
@@ -105,4 +109,5 @@ module _ (a : Agent) (call : Call) (n : ℕ) where
       format-keeps
       (λ z. then-calmly (sequence-keeps (inl z)) (calm-fallen (sequenceMarked a)))
       sequence-keeps
+      record { counters = λ i e. as-before (but-for a windowMark .registers i (not-status i e)); bits = window-quiet a }
       (calmly call n (calm-same (a .regs)))

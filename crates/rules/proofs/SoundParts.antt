@@ -18,7 +18,7 @@ use Rattle.rules.specs.Fixed.{lightingLimit, doorsLimit, isLimit, limitO
 use Rattle.rules.specs.Registers.{typAt, tidAt, sidAt, outRep, tcyc, cnfRep, cnfCyc, outputsAt, image, lowNumber}
 use Rattle.rules.specs.Sound.{settingsSound, sourcesSound, countersSound, outputsZero, runSound, fallbackSound, sound}
 use Rattle.rules.specs.Sources.{holds, distinct, below24, isRecorded, sidOf}
-use Rattle.rules.specs.State.{inRun, inFallback, isHeard, unheard, nobody}
+use Rattle.rules.specs.State.{inRun, inFallback, isHeard, unheard, isMarked, unmarked, nobody}
 use Rattle.rules.specs.declared.Agent.{Agent}
 use Rattle.rules.specs.declared.Fixed.{Fixed}
 use Rattle.rules.proofs.Parts.{modeBits, Settings, Sources, Named, LastIs, Running, Resting, ModeParts, FixedParts, SoundParts}
@@ -167,11 +167,17 @@ module _ (a : Agent) where
   abbrev heardTest : Bool
   heardTest = eqb (a .heard) isHeard || eqb (a .heard) unheard
 
+  abbrev markTest : Bool
+  markTest = eqb (a .mark) isMarked || eqb (a .mark) unmarked
+
   abbrev Last : Type 0
   Last = LastIs (a .known) (a .count) (a .last) (a .heard)
 
   abbrev Heard : Type 0
   Heard = (a .heard ≡ isHeard) ⊎ (a .heard ≡ unheard)
+
+  abbrev Mark : Type 0
+  Mark = (a .mark ≡ isMarked) ⊎ (a .mark ≡ unmarked)
 
   last-of : lastTest ≡ true → Last
   last-of =
@@ -189,17 +195,29 @@ module _ (a : Agent) where
   of-heard : Heard → heardTest ≡ true
   of-heard = of-either (eqb (a .heard) isHeard) (eqb (a .heard) unheard) (eq-eqb (a .heard) isHeard) (eq-eqb (a .heard) unheard)
 
-  counters-of : countersSound a ≡ true → (a .taken ≤ limitOf a) × (a .elapsed ≤ 254) × Last × Heard
+  mark-of : markTest ≡ true → Mark
+  mark-of = either-of (eqb (a .mark) isMarked) (eqb (a .mark) unmarked) (eqb-true (a .mark) isMarked) (eqb-true (a .mark) unmarked)
+
+  of-mark : Mark → markTest ≡ true
+  of-mark = of-either (eqb (a .mark) isMarked) (eqb (a .mark) unmarked) (eq-eqb (a .mark) isMarked) (eq-eqb (a .mark) unmarked)
+
+  abbrev counts : Bool
+  counts = leb (a .taken) (limitOf a) && leb (a .elapsed) 254 && lastTest && heardTest
+
+  counters-of : countersSound a ≡ true → (a .taken ≤ limitOf a) × (a .elapsed ≤ 254) × Last × Heard × Mark
   unfolding countersSound isRecorded
   counters-of e =
-      let w = four-parts (leb (a .taken) (limitOf a)) (leb (a .elapsed) 254) lastTest heardTest e in
-      (leb-true (a .taken) (limitOf a) (w .0), leb-true (a .elapsed) 254 (w .1), last-of (w .2), heard-of (w .3))
+      let both = and-parts counts markTest e in
+      let w = four-parts (leb (a .taken) (limitOf a)) (leb (a .elapsed) 254) lastTest heardTest (both .0) in
+      (leb-true (a .taken) (limitOf a) (w .0), leb-true (a .elapsed) 254 (w .1), last-of (w .2), heard-of (w .3), mark-of (both .1))
 
   of-counters : SoundParts a → countersSound a ≡ true
   unfolding countersSound isRecorded
   of-counters p =
-      four-true (leb (a .taken) (limitOf a)) (leb (a .elapsed) 254) lastTest heardTest
-      (le-leb (a .taken) (limitOf a) (p .k-most)) (le-leb (a .elapsed) 254 (p .e-most)) (of-last (p .last-is)) (of-heard (p .heard-is))
+      and-true counts markTest
+      (four-true (leb (a .taken) (limitOf a)) (leb (a .elapsed) 254) lastTest heardTest
+      (le-leb (a .taken) (limitOf a) (p .k-most)) (le-leb (a .elapsed) 254 (p .e-most)) (of-last (p .last-is)) (of-heard (p .heard-is)))
+      (of-mark (p .mark-is))
 
   -- ---- the two modes
   abbrev Runs : Type 0
@@ -280,6 +298,7 @@ module _ (a : Agent) where
         e-most = c .1;
         last-is = c .2;
         heard-is = c .3;
+        mark-is = c .4;
         by-mode = mode-of (w .3);
       }
 

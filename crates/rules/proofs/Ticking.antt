@@ -11,7 +11,7 @@ use Rattle.base.proofs.Choosing.{by-test, choose-false, and-rest}
 use Rattle.rules.specs.Fallback.{enterFallback}
 use Rattle.rules.specs.Registers.{tcyc}
 use Rattle.rules.specs.State.{inRun, unheard, running, tOf, nOf, mOf}
-use Rattle.rules.specs.Tick.{counted, syncLimit, commandLimit, limited, cycleEnded, ticked}
+use Rattle.rules.specs.Tick.{counted, syncLimit, commandLimit, windowLimit, limited, cycleEnded, ticked}
 use Rattle.rules.specs.declared.Agent.{Agent}
 use Rattle.rules.proofs.Kept.{GoodTo, good-counting}
 use Rattle.rules.proofs.Modes.{good-fallen-at}
@@ -48,7 +48,7 @@ module _ (a : Agent) (g : GoodTo 254 a) where
   unfolding counted
   good-counted one two =
       let p = g .parts in
-      good-counting 254 255 a g (p .k-most) (omega (arith, p .e-most)) (p .last-is) (p .heard-is) (counted-mode one two)
+      good-counting 254 255 a g (p .k-most) (omega (arith, p .e-most)) (p .last-is) (p .heard-is) (p .mark-is) (counted-mode one two)
 
   fallen : GoodTo 255 (enterFallback (counted a))
   unfolding counted
@@ -58,15 +58,16 @@ module _ (a : Agent) (g : GoodTo 254 a) where
   unfolding limited counted
   good-limited =
       by-test (GoodTo 255) (syncLimit (counted a)) (λ h. fallen)
-      (λ one. by-test (GoodTo 255) (commandLimit (counted a)) (λ h. fallen) (λ two. good-counted one two))
+      (λ one. by-test (GoodTo 255) (commandLimit (counted a)) (λ h. fallen)
+      (λ two. by-test (GoodTo 255) (windowLimit (counted a)) (λ h. fallen) (λ three. good-counted one two)))
 
 good-cycle-end : (a : Agent) → GoodTo 255 a → GoodTo 254 (cycleEnded a)
 unfolding cycleEnded
 good-cycle-end a g =
     let p = g .parts in
     by-test (GoodTo 254) (leb (tOf a) (a .elapsed))
-    (λ h. good-counting 255 254 a g (omega arith) (omega arith) (last-unheard (a .known) (a .count) (a .last) (a .heard) (p .last-is)) (inr refl) (p .by-mode))
-    (λ h. good-counting 255 254 a g (p .k-most) (omega (arith, leb-false (tOf a) (a .elapsed) h, g .registers .are-bytes tcyc)) (p .last-is) (p .heard-is) (p .by-mode))
+    (λ h. good-counting 255 254 a g (omega arith) (omega arith) (last-unheard (a .known) (a .count) (a .last) (a .heard) (p .last-is)) (inr refl) (p .mark-is) (p .by-mode))
+    (λ h. good-counting 255 254 a g (p .k-most) (omega (arith, leb-false (tOf a) (a .elapsed) h, g .registers .are-bytes tcyc)) (p .last-is) (p .heard-is) (p .mark-is) (p .by-mode))
 
 pub good-tick : (a : Agent) → GoodTo 254 a → GoodTo 254 (ticked a)
 unfolding ticked

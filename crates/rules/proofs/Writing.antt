@@ -49,6 +49,7 @@ rewritten a g q i z low s m =
         e-most = p .e-most;
         last-is = p .last-is;
         heard-is = p .heard-is;
+        mark-is = p .mark-is;
         by-mode = m;
       };
       registers = z;

@@ -69,6 +69,9 @@ replyRoom = 20
 abbrev pub hostInput : ℕ
 hostInput = 21
 
+abbrev pub outsideWindow : ℕ
+outsideWindow = 22
+
 -- accepted: answered 0
 abbrev pub isAccepted : ℕ → Bool
 isAccepted n = eqb n accepted

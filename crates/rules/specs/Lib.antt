@@ -4,6 +4,7 @@ pub mod State
 pub mod Fixed
 pub mod PowerUp
 pub mod Fallback
+pub mod Window
 pub mod Tick
 pub mod Inputs
 pub mod Sources

@@ -1,10 +1,10 @@
--- What a refusal marks and counts: STATUT bits, and counters that stop at 255. Assumes nothing.
+-- What a refusal marks and counts: STATUT bits, counters that stop at 255, and the mark of 22. Assumes nothing.
 use Prim.Native.Nat.{ℕ, _+_}
 use lib.Bits.{bitOr}
 use lib.Dec.{ltb}
 use Rattle.base.specs.Choice.{choose}
 use Rattle.rules.specs.Registers.{statut, cptSeq, cptFor}
-use Rattle.rules.specs.State.{reg, store}
+use Rattle.rules.specs.State.{isMarked, reg, store, withMark}
 use Rattle.rules.specs.declared.Agent.{Agent}
 
 abbrev pub counter : ℕ → ℕ
@@ -21,3 +21,7 @@ formatMarked a = store cptFor (counter (reg a cptFor)) (lineMarked a)
 -- 12 and 14: bit 1, and CPT_SEQ (20h) + 1
 unfoldable pub sequenceMarked : Agent → Agent
 sequenceMarked a = store cptSeq (counter (reg a cptSeq)) (store statut (bitOr (reg a statut) 0x02) a)
+
+-- 22: bit 1, and the mark
+unfoldable pub windowMarked : Agent → Agent
+windowMarked a = withMark isMarked (store statut (bitOr (reg a statut) 0x02) a)

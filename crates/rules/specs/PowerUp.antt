@@ -4,7 +4,7 @@ use Prim.Native.Nat.{ℕ}
 use lib.ListN.{replicate}
 use lib.Seq.{sets}
 use Rattle.rules.specs.Registers.{macAt, iidAt, typAt, verAt, tidAt, lowBytes}
-use Rattle.rules.specs.State.{inFallback, unheard, nobody}
+use Rattle.rules.specs.State.{inFallback, unheard, unmarked, nobody}
 use Rattle.rules.specs.declared.Agent.{Agent}
 use Rattle.rules.specs.declared.Fixed.{Fixed}
 
@@ -27,7 +27,7 @@ powerRegs mac iid ver =
     tidAt settings)
     0x26 (replicate 90 0xFF)
 
--- fallback, unheard, counters 0, no source; with what is fixed
+-- fallback, unheard, no mark, counters 0, no source; with what is fixed
 unfoldable pub powerUp : ℕ → ℕ → ℕ → Fixed → Agent
 powerUp mac iid ver fixed = record {
   regs = powerRegs mac iid ver;
@@ -40,6 +40,7 @@ powerUp mac iid ver fixed = record {
   taken = 0;
   mode = inFallback;
   heard = unheard;
+  mark = unmarked;
   count = 0;
   fixed = fixed;
 }

@@ -14,14 +14,14 @@ use Rattle.frame_kinds.specs.Kinds.{headOf}
 use Rattle.frame_kinds.specs.declared.kinds.Frame.{Frame}
 use Rattle.frame_forms.specs.declared.Read.{Read}
 use Rattle.frame_forms.specs.declared.Read.the-variants.{Valid, Kind, Form, Check}
-use Rattle.rules.specs.Answers.{bodyLength, fcs, reserved, elsewhere, typ, form, crc, source, addressee, cycle, repeat, outOfOrder, tooMany, outsideRules, hostInput}
+use Rattle.rules.specs.Answers.{bodyLength, fcs, reserved, elsewhere, typ, form, crc, source, addressee, cycle, repeat, outOfOrder, tooMany, outsideRules, outsideWindow}
 use Rattle.rules.specs.Calls.{Call, tick, frame, leftIn}
 use Rattle.rules.specs.Fallback.{withheld, enterFallback}
 use Rattle.rules.specs.FrameCall.{agentRead}
-use Rattle.rules.specs.Marks.{counter, lineMarked, formatMarked, sequenceMarked}
+use Rattle.rules.specs.Marks.{counter, lineMarked, formatMarked, sequenceMarked, windowMarked}
 use Rattle.rules.specs.Registers.{outRep, statut, cptSeq, cptFor, outputsAt, image}
 use Rattle.rules.specs.Replies.{Outcome}
-use Rattle.rules.specs.State.{inFallback, running, reg, withTaken}
+use Rattle.rules.specs.State.{inFallback, isMarked, unmarked, running, reg, withTaken}
 use Rattle.rules.specs.declared.Agent.{Agent}
 
 -- ---- the table
@@ -37,12 +37,14 @@ pub data Change : Type 0 where
   sequenceMark : Change
   -- the same, and fallback
   sequenceFall : Change
+  -- STATUT bit 1, and the mark
+  windowMark : Change
   -- k + 1
   oneTaken : Change
 
--- the numbers of refusals: 1 to 21
+-- the numbers of refusals: 1 to 22
 abbrev pub isRefusal : ℕ → Bool
-isRefusal n = within bodyLength hostInput n
+isRefusal n = within bodyLength outsideWindow n
 
 -- the row of a number; 12 has two, one for a sync in RUN and one for a request
 abbrev pub rowOf : (toSync : Bool) → ℕ → Change
@@ -51,7 +53,7 @@ rowOf toSync n =
     choose (within bodyLength fcs n) lineMark
     -- other stations: 5 and 6
     (choose (within reserved elsewhere n) nothing
-    -- a concentrator: 7, 8 to 11, 12, 13, 14, 15, 16
+    -- a concentrator: 7, 8 to 11, 12, 13, 14, 15, 16, 22
     (choose (eqb n typ) formatMark
     (choose (within form addressee n) nothing
     (choose (eqb n cycle) (choose toSync sequenceFall sequenceMark)
@@ -59,8 +61,9 @@ rowOf toSync n =
     (choose (eqb n outOfOrder) sequenceMark
     (choose (eqb n tooMany) nothing
     (choose (eqb n outsideRules) oneTaken
+    (choose (eqb n outsideWindow) windowMark
     -- 17 and 18; the host: 19 to 21
-    nothing))))))))
+    nothing)))))))))
 
 -- 6, 9, 10, 11 and 13, which leave no trace
 abbrev pub leavesAll : ℕ → Bool
@@ -73,6 +76,7 @@ changed lineMark a = lineMarked a
 changed formatMark a = formatMarked a
 changed sequenceMark a = sequenceMarked a
 changed sequenceFall a = enterFallback (sequenceMarked a)
+changed windowMark a = windowMarked a
 changed oneTaken a = withTaken (a .taken + 1) a
 
 -- ---- the parts that a change names
@@ -84,6 +88,7 @@ namesRegister lineMark i = eqb i statut
 namesRegister formatMark i = eqb i statut || eqb i cptFor
 namesRegister sequenceMark i = eqb i statut || eqb i cptSeq
 namesRegister sequenceFall i = eqb i statut || (eqb i cptSeq || (eqb i outRep || within 0x80 0xBF i))
+namesRegister windowMark i = eqb i statut
 namesRegister oneTaken i = false
 
 -- mode and q
@@ -93,6 +98,7 @@ namesMode lineMark = false
 namesMode formatMark = false
 namesMode sequenceMark = false
 namesMode sequenceFall = true
+namesMode windowMark = false
 namesMode oneTaken = false
 
 -- k
@@ -102,7 +108,18 @@ namesTaken lineMark = false
 namesTaken formatMark = false
 namesTaken sequenceMark = false
 namesTaken sequenceFall = false
+namesTaken windowMark = false
 namesTaken oneTaken = true
+
+-- the mark
+abbrev pub namesMark : Change → Bool
+namesMark nothing = false
+namesMark lineMark = false
+namesMark formatMark = false
+namesMark sequenceMark = false
+namesMark sequenceFall = true
+namesMark windowMark = true
+namesMark oneTaken = false
 
 -- b is a except for the parts that a change names
 pub record ButFor (row : Change) (a b : Agent) : Type 0 where
@@ -111,6 +128,7 @@ pub record ButFor (row : Change) (a b : Agent) : Type 0 where
   pub mode : namesMode row ≡ false → b .mode ≡ a .mode
   pub q : namesMode row ≡ false → b .idle ≡ a .idle
   pub k : namesTaken row ≡ false → b .taken ≡ a .taken
+  pub mark : namesMark row ≡ false → b .mark ≡ a .mark
   pub c : b .cycle ≡ a .cycle
   pub heard : b .heard ≡ a .heard
   pub e : b .elapsed ≡ a .elapsed
@@ -127,6 +145,7 @@ statusBy lineMark x = bitOr x 0x20
 statusBy formatMark x = bitOr x 0x20
 statusBy sequenceMark x = bitOr x 0x02
 statusBy sequenceFall x = bitOr (bitOr x 0x02) 0x80
+statusBy windowMark x = bitOr x 0x02
 statusBy oneTaken x = x
 
 -- the counters that go up by one and stop at 255
@@ -136,6 +155,7 @@ raises lineMark i = false
 raises formatMark i = eqb i cptFor
 raises sequenceMark i = eqb i cptSeq
 raises sequenceFall i = eqb i cptSeq
+raises windowMark i = false
 raises oneTaken i = false
 
 -- what the named parts are in b
@@ -146,6 +166,8 @@ pub record Makes (row : Change) (a b : Agent) : Type 0 where
   pub not-released : namesMode row ≡ true → reg b outRep ≡ withheld
   pub outputs : namesMode row ≡ true → (i : ℕ) → i < image → reg b (outputsAt + i) ≡ 0
   pub k : namesTaken row ≡ true → b .taken ≡ a .taken + 1
+  -- set by 22, cleared with fallback
+  pub mark : namesMark row ≡ true → b .mark ≡ choose (namesMode row) unmarked isMarked
 
 -- ---- a refused call
 

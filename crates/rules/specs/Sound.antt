@@ -10,7 +10,7 @@ use Rattle.rules.specs.Fallback.{released, withheld}
 use Rattle.rules.specs.Fixed.{limitOf, fits}
 use Rattle.rules.specs.Registers.{typAt, tidAt, outRep, statut, outputsAt, image}
 use Rattle.rules.specs.Sources.{distinct, below24, isRecorded, sidOf}
-use Rattle.rules.specs.State.{inRun, inFallback, isHeard, unheard, nobody, reg, tOf, nOf, mOf}
+use Rattle.rules.specs.State.{inRun, inFallback, isHeard, unheard, isMarked, unmarked, nobody, reg, tOf, nOf, mOf}
 use Rattle.rules.specs.declared.Agent.{Agent}
 
 -- t, n, m are not 0, OUT_REP is 55h or AAh, TID is 8Fh or assignable, TYP is 82h; what is fixed at power-up fits
@@ -24,12 +24,12 @@ unfoldable pub sourcesSound : Agent → Bool
 sourcesSound a =
     leb (a .count) 8 && distinct (a .known) (a .count) && below24 (a .known) (a .count) && Bool·beq (eqb (a .count) 0) (eqb (sidOf a) nobody)
 
--- k is at most the limit, e at most 254; the last source is recorded, or there is none and the cycle is unheard; heard has one
--- of its two values
+-- k is at most the limit, e at most 254; the last source is recorded, or there is none and the cycle is unheard; heard and the
+-- mark each have one of their two values
 unfoldable pub countersSound : Agent → Bool
 countersSound a =
     leb (a .taken) (limitOf a) && leb (a .elapsed) 254 && (isRecorded a (a .last) || (eqb (a .last) nobody && eqb (a .heard) unheard))
-    && (eqb (a .heard) isHeard || eqb (a .heard) unheard)
+    && (eqb (a .heard) isHeard || eqb (a .heard) unheard) && (eqb (a .mark) isMarked || eqb (a .mark) unmarked)
 
 -- the first n outputs are 0
 unfoldable pub outputsZero : List ℕ → ℕ → Bool

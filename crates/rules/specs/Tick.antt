@@ -5,6 +5,7 @@ use lib.Dec.{leb, ltb}
 use Rattle.base.specs.Choice.{choose}
 use Rattle.rules.specs.Fallback.{enterFallback}
 use Rattle.rules.specs.State.{unheard, running, tOf, nOf, mOf, withClock, withCycle}
+use Rattle.rules.specs.Window.{marked}
 use Rattle.rules.specs.declared.Agent.{Agent}
 
 -- s stops here
@@ -24,13 +25,23 @@ syncLimit a = leb (nOf a * tOf a) (a .silence)
 abbrev pub commandLimit : Agent → Bool
 commandLimit a = running a && leb (mOf a * tOf a) (a .idle)
 
--- fallback at the sync limit, in either mode, or else at the command limit
-unfoldable pub limited : Agent → Agent
-limited a = choose (syncLimit a) (enterFallback a) (choose (commandLimit a) (enterFallback a) a)
+-- the clock ends the cycle: e is at least t; in RUN with the mark set this too is a limit
+abbrev pub cycleOver : Agent → Bool
+cycleOver a = leb (tOf a) (a .elapsed)
 
--- if e is at least t: c becomes c + 1 modulo 256, unheard, e = 0, k = 0
+abbrev pub windowLimit : Agent → Bool
+windowLimit a = running a && marked a && cycleOver a
+
+-- fallback at the sync limit, in either mode, or else at the command limit, or else at that of the window
+unfoldable pub limited : Agent → Agent
+limited a =
+    choose (syncLimit a) (enterFallback a)
+    (choose (commandLimit a) (enterFallback a)
+    (choose (windowLimit a) (enterFallback a) a))
+
+-- at the end of the cycle c becomes c + 1 modulo 256, unheard, e = 0, k = 0
 unfoldable pub cycleEnded : Agent → Agent
-cycleEnded a = choose (leb (tOf a) (a .elapsed)) (withCycle ((a .cycle + 1) % 256) unheard 0 0 a) a
+cycleEnded a = choose (cycleOver a) (withCycle ((a .cycle + 1) % 256) unheard 0 0 a) a
 
 unfoldable pub ticked : Agent → Agent
 ticked a = cycleEnded (limited (counted a))

@@ -32,6 +32,8 @@ pub struct Agent {
     pub mode: u8,
     // whether the cycle is heard (1) or not (0)
     pub heard: u8,
+    // the mark: whether a sync came outside its window (1) or not (0)
+    pub mark: u8,
     pub count: u8,
     pub fixed: Fixed,
 }

@@ -23,13 +23,15 @@ pub struct SaturnAgent {
     pub taken: u8,
     pub mode: u8,
     pub heard: u8,
+    pub mark: u8,
     pub count: u8,
     pub fixed: SaturnFixed,
 }
 
 const _: () = assert!(size_of::<SaturnAgent>() == 304 && align_of::<SaturnAgent>() == 4);
-const _: () = assert!(offset_of!(SaturnAgent, count) == 301);
-const _: () = assert!(offset_of!(SaturnAgent, fixed.limit) == 302);
+const _: () = assert!(offset_of!(SaturnAgent, mark) == 301);
+const _: () = assert!(offset_of!(SaturnAgent, count) == 302);
+const _: () = assert!(offset_of!(SaturnAgent, fixed.limit) == 303);
 
 pub const FALLBACK: u8 = 0;
 pub const RUN: u8 = 1;

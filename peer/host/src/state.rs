@@ -22,6 +22,7 @@ pub fn laid_out(agent: &Agent, before: &SaturnAgent) -> SaturnAgent {
             Mode::Run => RUN,
         },
         heard: agent.heard as u8,
+        mark: agent.mark,
         count: agent.recorded.len() as u8,
         fixed: SaturnFixed {
             limit: agent.fixed.limit,
@@ -29,7 +30,7 @@ pub fn laid_out(agent: &Agent, before: &SaturnAgent) -> SaturnAgent {
     }
 }
 
-/// `None` if a flag is neither of its two values or the count of recorded is above 8: then
+/// `None` if mode or heard is neither of its two values or the count of recorded is above 8: then
 /// there is no such agent, and the state is unsound.
 pub fn read(state: &SaturnAgent) -> Option<Agent> {
     let count = state.count as usize;
@@ -49,6 +50,7 @@ pub fn read(state: &SaturnAgent) -> Option<Agent> {
             1 => true,
             _ => return None,
         },
+        mark: state.mark,
         in_cycle: state.elapsed as u16,
         since_sync: state.silence,
         since_output: state.idle as u32,
@@ -73,6 +75,7 @@ pub const BLANK: SaturnAgent = SaturnAgent {
     taken: 0,
     mode: 0,
     heard: 0,
+    mark: 0,
     count: 0,
     fixed: SaturnFixed { limit: 0 },
 };

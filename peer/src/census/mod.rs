@@ -5,6 +5,7 @@ mod bad;
 mod bodies;
 mod list;
 mod ticks;
+mod windows;
 mod writes;
 
 pub use list::{of_list, ListCensus};
@@ -12,7 +13,7 @@ pub use list::{of_list, ListCensus};
 use crate::body;
 use crate::frame::{self, com, Frame};
 use crate::module::registers::{CONF, CPT_FOR, CPT_SEQ, SILENT};
-use crate::module::{Agent, Mode};
+use crate::module::{Agent, Mode, MARKED};
 use crate::script::{parse, Line, Lines, Played, Player};
 use std::collections::{BTreeMap, HashMap};
 use std::fmt;
@@ -22,6 +23,8 @@ pub struct Census {
     player: Player,
     /// The port on which a body was accepted last.
     accepted: HashMap<Vec<u8>, u8>,
+    /// The port on which a sync came outside its window last.
+    outside: u8,
     /// How many lines of inputs came one after another, up to this one.
     in_a_row: usize,
 }
@@ -32,6 +35,7 @@ pub fn of(script: &[u8]) -> Census {
         counts: BTreeMap::new(),
         player: Player::power_up(),
         accepted: HashMap::new(),
+        outside: 0,
         in_a_row: 0,
     };
     let mut lines = Lines::new(script);
@@ -129,6 +133,7 @@ impl Census {
         }
         if let Ok(received) = frame::read(received) {
             self.request(&received.frame, before, answer);
+            self.window(port, &received.frame, before, answer);
         }
         match answer {
             0 => drop(self.accepted.insert(received.to_vec(), port)),
@@ -140,6 +145,18 @@ impl Census {
                 self.add("repeat on the other port");
             }
             _ => {}
+        }
+    }
+
+    fn window(&mut self, port: u8, frame: &Frame, before: &Agent, answer: u8) {
+        for what in windows::events(frame, before, answer) {
+            self.add(&what);
+            if what == "mark healed" && port != self.outside {
+                self.add("mark healed on the other port");
+            }
+        }
+        if answer == 22 {
+            self.outside = port;
         }
     }
 
@@ -181,11 +198,15 @@ impl Census {
     }
 
     fn modes(&mut self, before: &Agent, after: &Agent, played: &Played) {
-        match (before.mode, after.mode, played.answer) {
-            (Mode::Fallback, Mode::Run, _) => self.add("entered RUN"),
-            (Mode::Run, Mode::Fallback, 12) => self.add("left RUN: wrong cycle"),
-            (Mode::Run, Mode::Fallback, _) => self.add("left RUN: order"),
-            _ => {}
+        let why = match (before.mode, after.mode, played.answer) {
+            (Mode::Fallback, Mode::Run, _) => return self.add("entered RUN"),
+            (Mode::Run, Mode::Fallback, 12) => "wrong cycle",
+            (Mode::Run, Mode::Fallback, _) => "order",
+            _ => return,
+        };
+        self.add(&format!("left RUN: {why}"));
+        if before.mark == MARKED {
+            self.add(&format!("left RUN: {why}, while marked"));
         }
     }
 

@@ -102,7 +102,7 @@ pub fn refused(tally: &mut Tally, what: &str, mut agent: Agent) {
     tally.check(right && agent == before, &format!("unsound: {what}"));
 }
 
-/// 20 before 21, 21 before 1; only the last is marked.
+/// 20 before 21, 21 before 1; only the last leaves a trace.
 fn order(tally: &mut Tally, sound: &Agent) {
     for (port, room, number) in [
         (3, 544, 20),

@@ -94,7 +94,7 @@ fn kept(tally: &mut Tally, limit: u8, scenes: u8) {
     let fixed = Fixed { limit };
     let mut player = Player::power_up_as(fixed);
     let (mut right, mut too_many) = (true, 0);
-    let script = generate::script_as(Fixed { limit: scenes }, 21, 3000);
+    let script = generate::script_as(Fixed { limit: scenes }, 21, 5000);
     for line in script.split(|&byte| byte == b'\n').filter_map(parse) {
         if let Line::Frame { body, .. } = &line {
             right &= player.agent.frame(1, body, &mut [0; 544]).number == 20;

@@ -1,6 +1,6 @@
 //! Self checks: stored vectors, published and proved values, round trips of every kind, the
-//! cases on the bench, what the host may do wrong, the limit of requests, the tick call, the traps, the
-//! script and the frame program.
+//! cases on the bench, what the host may do wrong, the limit of requests, the tick call, the window
+//! of syncs, the traps, the script and the frame program.
 
 mod bench;
 mod host;
@@ -12,6 +12,7 @@ mod script;
 mod spelling;
 mod tick;
 mod traps;
+mod window;
 
 use crate::body;
 use crate::cases::KINDS;
@@ -51,6 +52,7 @@ pub fn run() -> Tally {
     host::run(&mut tally);
     limit::run(&mut tally);
     tick::run(&mut tally);
+    window::run(&mut tally);
     script::run(&mut tally);
     spelling::run(&mut tally);
     lists::run(&mut tally);

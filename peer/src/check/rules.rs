@@ -27,17 +27,19 @@ fn expected(running: bool, first: usize, last: usize) -> bool {
         || (inside(0x80, 0xBF) && running)
 }
 
-/// Bytes of 55h, which every span accepts, in all lengths up to one more than the longest span.
+/// Bytes of 55h, which every span accepts, in all lengths up to one more than the longest span, in
+/// a cycle whose sync came one ms early.
 fn places(tally: &mut Tally, start: &Bench, add: u8) {
     let right = (0..=65).all(|length| {
         let mut bench = start.clone();
-        bench.sync(0x08);
+        bench.ticks(9);
+        let synced = bench.sync(0x08) == 0;
         let number = bench.write(add, &vec![0x55; length]);
         let place = add as usize;
         let taken = length > 0 && expected(start.runs(), place, place + length - 1);
         let there = bench.agent.registers.bytes.get(place..place + length);
         let written = there.is_some_and(|bytes| bytes.iter().all(|&byte| byte == 0x55));
-        number == if taken { 0 } else { 16 } && (written || !taken)
+        synced && number == if taken { 0 } else { 16 } && (written || !taken)
     });
     let mode = start.agent.mode;
     tally.check(right, &format!("writes at {add:02X}h in {mode:?}"));

@@ -45,12 +45,15 @@ const FORMS: [(&str, &str); 24] = [
 /// How often every answer must come up in 6,000 lines, at least.
 const OFTEN: usize = 50;
 
-const IN_A_SCRIPT: [(&str, usize); 17] = [
+const IN_A_SCRIPT: [(&str, usize); 20] = [
     ("entered RUN", 50),
     ("left RUN: sync silence", 10),
     ("left RUN: command silence", 10),
     ("left RUN: wrong cycle", 10),
     ("left RUN: order", 10),
+    ("left RUN: mark", 5),
+    ("mark healed", 5),
+    ("second 22 while marked", 5),
     ("takeover in RUN", 10),
     ("wrap in RUN by a sync", 5),
     ("wrap in RUN by the clock", 5),
@@ -65,7 +68,7 @@ const IN_A_SCRIPT: [(&str, usize); 17] = [
     ("inputs: left RUN: command silence", 5),
 ];
 
-const IN_A_LONG_SCRIPT: [(&str, usize); 34] = [
+const IN_A_LONG_SCRIPT: [(&str, usize); 55] = [
     ("frame before the first SID", 20),
     ("recorded", 8),
     ("takeover in fallback", 10),
@@ -100,6 +103,30 @@ const IN_A_LONG_SCRIPT: [(&str, usize); 34] = [
     ("inputs: end of a cycle in RUN", 100),
     ("inputs: pending release ended by silence", 10),
     ("inputs, six in a row", 4),
+    ("left RUN: sync silence, at a marked clock end", 10),
+    ("left RUN: command silence, at a marked clock end", 3),
+    ("left RUN: wrong cycle, while marked", 5),
+    ("left RUN: order, while marked", 3),
+    ("inputs: left RUN: mark", 5),
+    ("mark healed on the other port", 10),
+    ("left RUN: mark", 20),
+    ("sync in RUN, heard, CYC = c + 1, e = 0: 0", 20),
+    ("sync in RUN, heard, CYC = c + 1, e = 0: 22", 20),
+    ("sync in RUN, heard, CYC = c + 1, e = TCYC - w - 1: 22", 10),
+    ("sync in RUN, heard, CYC = c + 1, e = TCYC - w: 0", 50),
+    ("sync in RUN, heard, CYC = c + 1, e = TCYC - 1: 0", 50),
+    ("sync in RUN, unheard, CYC = c + 1, e = 0: 0", 5),
+    ("sync in RUN, unheard, CYC = c + 1, e = 0: 22", 10),
+    (
+        "sync in RUN, unheard, CYC = c + 1, e = TCYC - w - 1: 22",
+        10,
+    ),
+    ("sync in RUN, unheard, CYC = c + 1, e = TCYC - w: 0", 20),
+    ("sync in RUN, unheard, CYC = c + 1, e = TCYC - 1: 0", 20),
+    ("sync in RUN, unheard, CYC = c, e = 0: 0", 50),
+    ("sync in RUN, unheard, CYC = c, e = w - 1: 0", 50),
+    ("sync in RUN, unheard, CYC = c, e = w: 0", 20),
+    ("sync in RUN, unheard, CYC = c, e = w + 1: 22", 10),
 ];
 
 /// The spans that can be written, and the modes in which they can.
@@ -241,7 +268,7 @@ fn generated(tally: &mut Tally) {
     let again = generate::script(11, 6000);
     tally.check(script == again, "a seed gives one script");
     let census = census::of(&script);
-    for number in (0..=18).chain([21]) {
+    for number in (0..=18).chain([21, 22]) {
         let what = format!("answer {number} comes up often");
         tally.check(census.answers(number) >= OFTEN, &what);
     }

@@ -30,12 +30,14 @@ pub fn run(tally: &mut Tally) {
     cycle(tally);
 }
 
-fn starts() -> [Start; 5] {
+fn starts() -> [Start; 6] {
     let start = |what, agent, pass| Start { what, agent, pass };
     let mut running = Bench::running(10, 2, 5, 0x07);
     running.write(0x80, &[7; 64]);
-    let [mut cycle, mut sync, mut output] = [(); 3].map(|()| running.clone());
+    let [mut cycle, mut marked, mut sync, mut output] = [(); 4].map(|()| running.clone());
     cycle.ticks(9);
+    marked.sync(0x08);
+    marked.ticks(9);
     sync.ticks(19);
     output.agent.since_output = 49;
     [
@@ -43,6 +45,11 @@ fn starts() -> [Start; 5] {
         start("RUN", running.agent, one_ms_in_run),
         start("RUN, its cycle ends", cycle.agent, |agent| {
             one_ms_in_run(agent);
+            end_cycle(agent);
+        }),
+        start("RUN, its cycle ends, marked", marked.agent, |agent| {
+            one_ms(agent);
+            fall_back(agent);
             end_cycle(agent);
         }),
         start("RUN, at the sync limit", sync.agent, |agent| {
@@ -73,7 +80,7 @@ fn end_cycle(agent: &mut Agent) {
 }
 
 fn fall_back(agent: &mut Agent) {
-    (agent.mode, agent.since_output) = (Mode::Fallback, 0);
+    (agent.mode, agent.since_output, agent.mark) = (Mode::Fallback, 0, 0);
     agent.registers.bytes[OUTPUTS].fill(0);
     agent.registers[OUT_REP] = HOLD;
     agent.registers[STATUT] |= REP;

@@ -28,6 +28,7 @@ fn repeated_sync(tally: &mut Tally) {
 /// A recorded concentrator that is not the last one cannot write.
 fn deposed(tally: &mut Tally) {
     let mut bench = Bench::running(10, 2, 5, 0x07);
+    bench.ticks(9);
     tally.check(bench.sync_of(SECOND, 0x08) == 0, "another takes over");
     let late = Head {
         src: FIRST,
@@ -47,7 +48,7 @@ fn outputs_in_fallback(tally: &mut Tally) {
         .all(|&byte| byte == 0);
     tally.check(zero && !bench.runs(), "and fallback, outputs 00h");
     tally.check(bench.register(0x17) == 0xAA, "and no release");
-    tally.check(bench.register(0x19) == 0x82, "and marked");
+    tally.check(bench.register(0x19) == 0x82, "and shown in STATUT");
     tally.check(bench.register(0x20) == 1, "and counted");
 }
 
@@ -73,7 +74,7 @@ fn pending_release(tally: &mut Tally) {
     }
 }
 
-/// STAT and data from 19h show the marks and the port once.
+/// STAT and data from 19h show the bits and the port once.
 fn status(tally: &mut Tally) {
     let mut bench = Bench::running(10, 2, 5, 0x07);
     bench.agent.frame(1, &[], &mut [0; 545]);
@@ -91,11 +92,12 @@ fn status(tally: &mut Tally) {
     }
 }
 
-/// CONF bit 2: the effect remains, nothing is sent, the marks stay.
+/// CONF bit 2: the effect remains, nothing is sent, the bits stay.
 fn silent(tally: &mut Tally) {
     let mut bench = Bench::running(10, 2, 5, 0x07);
     bench.write(0x25, &[0x04]);
     bench.agent.frame(1, &[], &mut [0; 545]);
+    bench.ticks(9);
     let outcome = bench.say(1, &speech::sync(FIRST, 0x08));
     let right = outcome.number == 0 && outcome.sent == 0 && bench.agent.cycle == 0x08;
     tally.check(right && bench.register(0x19) == 0x20, "CONF bit 2");

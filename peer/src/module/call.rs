@@ -53,7 +53,7 @@ impl Agent {
     fn take_in(&mut self, received: &[u8]) -> Result<Option<Reply>, Refusal> {
         let outcome = self.receive(received).and_then(|body| self.obey(&body));
         if let Err(refusal) = outcome {
-            self.mark(refusal);
+            self.note(refusal);
         }
         outcome
     }

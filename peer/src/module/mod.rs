@@ -1,13 +1,13 @@
 //! The agent of one SIL2 output module: its state, and what ticks and frames do to it.
 //!
 //! The names of document 01: `cycle` is c, `in_cycle` e, `since_sync` s, `since_output` q,
-//! `taken` k; t, n and m are in the registers.
+//! `taken` k; t, n and m are in the registers. `mark` is the mark of document 02's request 1.
 
 mod assignment;
 mod call;
 mod fixed;
-mod marks;
 mod mode;
+mod notes;
 pub mod registers;
 mod reply;
 mod request;
@@ -27,6 +27,10 @@ use registers::Registers;
 pub const RECORDED_MAX: usize = 8;
 pub const NO_SID: u32 = 0xFF_FFFF;
 
+/// The two values of the mark.
+pub const UNMARKED: u8 = 0;
+pub const MARKED: u8 = 1;
+
 #[derive(Clone, Debug, PartialEq, Eq)]
 pub struct Agent {
     pub registers: Registers,
@@ -34,6 +38,9 @@ pub struct Agent {
     pub cycle: u8,
     /// Whether the sync of this cycle was accepted.
     pub heard: bool,
+    /// Whether a sync came outside its window and none was accepted since. One of two values,
+    /// though the host may hand in any byte.
+    pub mark: u8,
     pub in_cycle: u16,
     pub since_sync: u16,
     pub since_output: u32,
@@ -52,6 +59,7 @@ impl Agent {
             mode: Mode::Fallback,
             cycle: 0,
             heard: false,
+            mark: UNMARKED,
             in_cycle: 0,
             since_sync: 0,
             since_output: 0,
@@ -60,6 +68,11 @@ impl Agent {
             recorded: Vec::new(),
             fixed,
         }
+    }
+
+    /// w: so many ms before or after the end of its cycle a sync may come in RUN.
+    pub fn window_width(&self) -> u16 {
+        (self.registers.tcyc() as u16 / 8).max(1)
     }
 
     /// n × t: this many ms without a sync are too many.

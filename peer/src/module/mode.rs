@@ -1,7 +1,7 @@
 //! The two modes and the ways between them.
 
 use super::registers::{HOLD, OUTPUTS, OUT_REP, REP, STATUT};
-use super::Agent;
+use super::{Agent, UNMARKED};
 
 #[derive(Clone, Copy, Debug, PartialEq, Eq)]
 pub enum Mode {
@@ -17,6 +17,7 @@ impl Agent {
         self.registers[OUT_REP] = HOLD;
         self.registers[STATUT] |= REP;
         self.since_output = 0;
+        self.mark = UNMARKED;
     }
 
     pub(super) fn enter_run(&mut self) {

@@ -15,7 +15,7 @@ pub(super) enum Reply {
 }
 
 impl Agent {
-    /// Returns the sent length. What was sent has shown the marks of STATUT, so they go.
+    /// Returns the sent length. What was sent has shown the bits of STATUT, so they go.
     pub(super) fn send(&mut self, port: u8, reply: &Reply, buffer: &mut [u8]) -> usize {
         if self.registers[CONF] & SILENT != 0 {
             return 0;

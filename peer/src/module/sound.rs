@@ -1,7 +1,7 @@
 //! Which states are sound. A host could hand in any state; no call works on an unsound one.
 
 use super::registers::*;
-use super::{assignable, Agent, Mode, NO_SID, RECORDED_MAX};
+use super::{assignable, Agent, Mode, MARKED, NO_SID, RECORDED_MAX, UNMARKED};
 
 impl Agent {
     pub fn sound(&self) -> bool {
@@ -9,6 +9,7 @@ impl Agent {
             && self.settings_sound()
             && self.concentrators_sound()
             && self.clocks_sound()
+            && [UNMARKED, MARKED].contains(&self.mark)
             && match self.mode {
                 Mode::Run => self.run_sound(),
                 Mode::Fallback => self.fallback_sound(),

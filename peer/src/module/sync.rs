@@ -2,11 +2,11 @@
 
 use super::registers::{OUT_REP, RELEASE};
 use super::reply::Reply;
-use super::{Agent, Mode};
+use super::{Agent, Mode, UNMARKED};
 use crate::refusal::Refusal;
 
 impl Agent {
-    /// Number 10, then 13 before 12. Only RUN asks for a certain cycle.
+    /// Number 10, then 13 before 12, then 22. Only RUN asks for a certain cycle and a certain time.
     pub(super) fn hear(&mut self, src: u32, cyc: u8) -> Result<Reply, Refusal> {
         if !self.recorded.contains(&src) {
             return Err(Refusal::Source);
@@ -18,6 +18,9 @@ impl Agent {
             self.enter_fallback();
             return Err(Refusal::Cycle);
         }
+        if self.mode == Mode::Run && !self.in_window(cyc) {
+            return Err(Refusal::Window);
+        }
         self.begin_cycle(src, cyc);
         Ok(Reply::ToSync { dest: src })
     }
@@ -26,13 +29,24 @@ impl Agent {
         self.heard && cyc == self.cycle && self.source == Some(src)
     }
 
-    fn expects(&self, cyc: u8) -> bool {
+    /// Whether RUN takes a sync of this cycle, at the right time.
+    pub fn expects(&self, cyc: u8) -> bool {
         cyc == self.cycle.wrapping_add(1) || (!self.heard && cyc == self.cycle)
+    }
+
+    /// The sync of the next cycle may come a little early, that of this cycle a little late.
+    pub fn in_window(&self, cyc: u8) -> bool {
+        let width = self.window_width();
+        match cyc == self.cycle {
+            true => self.in_cycle <= width,
+            false => self.in_cycle >= self.registers.tcyc() as u16 - width,
+        }
     }
 
     fn begin_cycle(&mut self, src: u32, cyc: u8) {
         self.cycle = cyc;
         self.heard = true;
+        self.mark = UNMARKED;
         self.source = Some(src);
         self.in_cycle = 0;
         self.since_sync = 0;

@@ -1,7 +1,7 @@
 //! The tick call: the host gives the inputs, all 64 at once, and one ms goes by.
 
 use super::registers::INPUTS;
-use super::{Agent, Mode};
+use super::{Agent, Mode, MARKED};
 use crate::refusal::Refusal;
 
 impl Agent {
@@ -45,7 +45,11 @@ impl Agent {
         }
     }
 
+    /// A mark that no accepted sync has cleared by now means fallback.
     fn end_cycle(&mut self) {
+        if self.mode == Mode::Run && self.mark == MARKED {
+            self.enter_fallback();
+        }
         self.cycle = self.cycle.wrapping_add(1);
         self.heard = false;
         self.in_cycle = 0;

@@ -36,8 +36,9 @@ returns-3 c = let a = c .before .before .before .before .before .before .before 
   c .does3 .ensures .1,
 )
 
+-- d is at most k, k is below the limit, and the limit is a byte
 add-next : tie.Need-add-next
-add-next c = search needs
+add-next c = search (needs, c .before .struct-known3 .given)
 
 on-ask-requires : tie.Need-on-ask-requires
 on-ask-requires c κs = search needs

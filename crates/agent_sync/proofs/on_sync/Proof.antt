@@ -56,23 +56,54 @@ returns-3 c =
       c .does3 .ensures .1,
     )
 
+in-window-requires : tie.Need-in-window-requires
+in-window-requires c κs = search needs
+
+window-marked-requires : tie.Need-window-marked-requires
+window-marked-requires c κs = search needs
+
+does-requires-4 : tie.Need-does-requires-4
+does-requires-4 c κs = search needs
+
+returns-4 : tie.Need-returns-4
+unfolding onSync
+returns-4 c =
+    let w = c .before .before .before .before in
+    let r = w .before .before .before .before .before in (
+      rw (
+        ← (r .before .before .is-recorded .ensures),
+        r .before .if1 .left,
+        ← (r .is-repeat .ensures),
+        w .before .before .before .before .if2 .left,
+        ← (w .before .before .before .cycle-fits .ensures),
+        w .before .if3 .left,
+        ← (w .in-window .ensures),
+        c .before .before .if4 .taken,
+        ← (c .before .window-marked .ensures),
+      ) (c .does4 .ensures .0),
+      c .does4 .ensures .1,
+    )
+
 synced-requires : tie.Need-synced-requires
 synced-requires c κs = search needs
 
 sync-reply-requires : tie.Need-sync-reply-requires
 sync-reply-requires c κs = search needs
 
-returns-4 : tie.Need-returns-4
+returns-5 : tie.Need-returns-5
 unfolding onSync
-returns-4 c =
-    let r = c .before .before .before .before .before .before in (
+returns-5 c =
+    let w = c .before .before .before .before in
+    let r = w .before .before .before .before .before in (
       rw (
         ← (r .before .before .is-recorded .ensures),
         r .before .if1 .left,
         ← (r .is-repeat .ensures),
-        c .before .before .before .before .before .if2 .left,
-        ← (c .before .before .before .before .cycle-fits .ensures),
-        c .before .before .if3 .left,
+        w .before .before .before .before .if2 .left,
+        ← (w .before .before .before .cycle-fits .ensures),
+        w .before .if3 .left,
+        ← (w .in-window .ensures),
+        c .before .before .if4 .left,
         ← (c .before .synced .ensures),
       ) (c .sync-reply .ensures .0),
       c .sync-reply .ensures .1,
@@ -93,6 +124,10 @@ on-sync-spec =
     enter-fallback-requires
     does-requires-3
     returns-3
+    in-window-requires
+    window-marked-requires
+    does-requires-4
+    returns-4
     synced-requires
     sync-reply-requires
-    returns-4)
+    returns-5)

@@ -5,7 +5,7 @@ use peer::body;
 use peer::frame::{Head, SidAssignment};
 use peer::generate::random::Random;
 use peer::generate::{damage, sample, speech};
-use peer::module::registers::{CNF_REP, OUT_REP, RELEASE};
+use peer::module::registers::{CNF_REP, OUT_REP, RELEASE, TCYC};
 use peer::module::{first_seq, Agent, Fixed, REPLY_ROOM};
 use std::collections::BTreeMap;
 
@@ -40,7 +40,7 @@ pub const ALL: [Workload; 9] = [
         name: "a",
         what: "sync, write of 64, read of 64 in RUN",
         answer: Some(0),
-        start: running,
+        start: running_short,
         calls: cycles,
     },
     Workload {
@@ -200,20 +200,28 @@ fn heard(recorded: u32) -> Agent {
     agent
 }
 
-fn run(recorded: u32) -> Agent {
-    let mut agent = heard(recorded);
-    let write = speech::write(TID, head(0xFE, 1), OUT_REP, &[RELEASE]);
+fn run(agent: Agent, place: u8) -> Agent {
+    let mut agent = agent;
+    let write = speech::write(TID, head(0xFE, place), OUT_REP, &[RELEASE]);
     take(&mut agent, &write.body());
     take(&mut agent, &speech::sync(FIRST, 0xFF).body());
     agent
 }
 
 fn running() -> Agent {
-    run(1)
+    run(heard(1), 1)
+}
+
+/// TCYC is 1 ms: every sync is in its window, though no ms goes by.
+fn running_short() -> Agent {
+    let mut agent = heard(1);
+    let write = speech::write(TID, head(0xFE, 1), TCYC, &[1]);
+    take(&mut agent, &write.body());
+    run(agent, 2)
 }
 
 fn running_with_eight() -> Agent {
-    run(8)
+    run(heard(8), 1)
 }
 
 fn heard_in_fallback() -> Agent {

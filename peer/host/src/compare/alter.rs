@@ -6,7 +6,7 @@ use peer::module::registers::STATUT;
 
 type Change = fn(&mut Random, &mut SaturnAgent);
 
-pub const HARMLESS: [(&str, Change); 9] = [
+pub const HARMLESS: [(&str, Change); 11] = [
     ("e at 254", |_, state| state.elapsed = 254),
     ("e any", |random, state| {
         state.elapsed = random.below(255) as u8
@@ -16,6 +16,9 @@ pub const HARMLESS: [(&str, Change); 9] = [
         state.taken = random.below(state.fixed.limit as usize + 1) as u8
     }),
     ("unheard", |_, state| state.heard = 0),
+    // In either mode.
+    ("mark set", |_, state| state.mark = 1),
+    ("mark clear", |_, state| state.mark = 0),
     ("c any", |random, state| state.cycle = random.byte()),
     ("STATUT bits 5 to 0", |random, state| {
         state.regs[STATUT as usize] |= random.byte() & 0x3F;
@@ -49,13 +52,14 @@ pub fn any_bytes(random: &mut Random, state: &mut SaturnAgent) {
                     &mut state.taken,
                     &mut state.mode,
                     &mut state.heard,
+                    &mut state.mark,
                     &mut state.count,
                     &mut state.fixed.limit,
                 ];
                 *fields
                     .into_iter()
-                    .nth(random.below(7))
-                    .expect("one of seven") = byte;
+                    .nth(random.below(8))
+                    .expect("one of eight") = byte;
             }
         }
     }

@@ -2,7 +2,7 @@
 //!
 //! `compare SEED SCRIPTS LINES`: SCRIPTS scripts of LINES lines each, on modules with either limit of
 //! requests in turn, with calls between the lines on unsound states, short buffers, other ports, inputs
-//! of other lengths and requests around the limit. Stops at the first difference.
+//! of other lengths, requests around the limit and syncs about their window. Stops at the first difference.
 
 mod alter;
 mod call;
@@ -11,6 +11,7 @@ mod play;
 mod power;
 mod spoil;
 mod tally;
+mod window;
 
 use play::Play;
 use std::process::ExitCode;

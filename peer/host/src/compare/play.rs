@@ -4,8 +4,9 @@ use crate::alter::{any_bytes, HARMLESS};
 use crate::call::{compared, Call};
 use crate::flood;
 use crate::spoil::WAYS;
-use crate::tally::{Tally, INPUTS_MAX, INPUTS_SOUND, INPUTS_UNSOUND, SHORT_BUFFERS};
-use host::library::SaturnAgent;
+use crate::tally::{Tally, INPUTS_MAX, INPUTS_SOUND, INPUTS_UNSOUND, MARKED_ENDS, SHORT_BUFFERS};
+use crate::window;
+use host::library::{SaturnAgent, FALLBACK, RUN};
 use host::state;
 use peer::generate::random::Random;
 use peer::generate::{self, sample};
@@ -20,6 +21,7 @@ const ANY_BYTES: usize = 4;
 const SHORT_BUFFER: usize = 2;
 const WRONG_HOST: usize = 6;
 const FLOOD: usize = 8;
+const WINDOW: usize = 4;
 
 /// What is fixed in the module, and in the one that the scenes are for; by the seed in turn.
 const FIXED: [(Fixed, Fixed); 4] = [
@@ -126,6 +128,9 @@ impl<'a> Play<'a> {
         if self.random.one_in(FLOOD) {
             self.flood()?;
         }
+        if self.random.one_in(WINDOW) {
+            self.window()?;
+        }
         if self.random.one_in(HARMLESS_CHANGE) {
             self.harmless(call)?;
         }
@@ -217,6 +222,26 @@ impl<'a> Play<'a> {
         for _ in 0..6 {
             let call = flood::request(&mut self.random, &state);
             state = self.compare(&state, &call)?.1;
+        }
+        Ok(())
+    }
+
+    /// In RUN: a sync about its window, then two ms.
+    fn window(&mut self) -> Result<(), String> {
+        let mut state = self.state;
+        if state.mode != RUN {
+            return Ok(());
+        }
+        window::alter(&mut self.random, &mut state);
+        let call = window::sync(&mut self.random, &state);
+        state = self.compare(&state, &call)?.1;
+        for _ in 0..2 {
+            let before = state;
+            state = self.compare(&before, &Call::Tick(vec![0; 64]))?.1;
+            let fell = before.mode == RUN && state.mode == FALLBACK;
+            if fell && before.mark == 1 && before.cycle != state.cycle {
+                self.tally.add(MARKED_ENDS);
+            }
         }
         Ok(())
     }

@@ -71,6 +71,7 @@ fn any_state(random: &mut Random) -> SaturnAgent {
     state.last = random.next() as u32;
     (state.silence, state.idle) = (random.next() as u16, random.next() as u16);
     (state.mode, state.heard, state.count) = (random.byte(), random.byte(), random.byte());
+    state.mark = random.byte();
     (state.cycle, state.elapsed, state.taken) = (random.byte(), random.byte(), random.byte());
     state.fixed.limit = random.byte();
     state

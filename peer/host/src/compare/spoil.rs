@@ -1,4 +1,4 @@
-//! The ways to make a state unsound: each point of document 01's list and of decisions A18 and R6.2.
+//! The ways to make a state unsound: each point of document 01's list and of decisions A18, R6.2 and R1.4.
 
 use host::library::{SaturnAgent, FALLBACK, RUN};
 use peer::generate::random::Random;
@@ -17,7 +17,7 @@ const fn way(name: &'static str, make: fn(&mut Random, &mut SaturnAgent) -> bool
 
 const NO_SID: u32 = 0xFF_FFFF;
 
-pub const WAYS: [Way; 36] = [
+pub const WAYS: [Way; 38] = [
     way("t is 0", |_, state| set(state, TCYC, 0)),
     way("n is 0", |_, state| set(state, CNF_CYC, 0)),
     way("m is 0", |_, state| set(state, CNF_REP, 0)),
@@ -157,6 +157,14 @@ pub const WAYS: [Way; 36] = [
     }),
     way("heard neither of two", |random, state| {
         state.heard = other_than(random, &[0, 1]);
+        true
+    }),
+    way("mark neither of two", |random, state| {
+        state.mark = other_than(random, &[0, 1]);
+        true
+    }),
+    way("mark 2, 3, 128 or 255", |random, state| {
+        state.mark = random.pick(&[2, 3, 128, 255]);
         true
     }),
 ];

@@ -8,6 +8,7 @@ use std::fmt;
 use std::process::ExitCode;
 
 pub const POWER_UP: &str = "power-up";
+pub const MARKED_ENDS: &str = "fallback at a marked clock end";
 pub const SHORT_BUFFERS: &str = "short buffers";
 pub const INPUTS_SOUND: &str = "inputs, the state sound";
 pub const INPUTS_UNSOUND: &str = "inputs, the state unsound";
@@ -66,7 +67,7 @@ impl Tally {
 
     /// What should have come up and did not.
     fn missing(&self) -> Vec<String> {
-        let answers = (0..=21).map(|answer| format!("answer {answer:2}"));
+        let answers = (0..=22).map(|answer| format!("answer {answer:2}"));
         let ways = WAYS.iter().map(|way| format!("unsound: {}", way.name));
         let harmless = HARMLESS.iter().map(|(name, _)| format!("sound: {name}"));
         let by_limit = BY_LIMIT
@@ -78,6 +79,7 @@ impl Tally {
             missing.map(move |length| format!("{what}: length {length}"))
         });
         answers
+            .chain([MARKED_ENDS.to_string()])
             .chain(ways)
             .chain(harmless)
             .chain(by_limit)

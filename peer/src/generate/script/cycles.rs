@@ -2,6 +2,7 @@
 
 use super::super::{sample, speech};
 use super::manners::TRIES;
+use super::settings::set_limits;
 use super::stage::Stage;
 use crate::module::registers::{OUTPUTS, OUT_REP, RELEASE};
 
@@ -34,7 +35,7 @@ fn one(stage: &mut Stage) {
 /// Up to the end of the cycle or one ms less, or beyond; never so long that RUN would end.
 pub fn pass_time(stage: &mut Stage) {
     let cycle = stage.registers().tcyc() as u32;
-    let left = cycle.saturating_sub(stage.agent().in_cycle as u32);
+    let left = stage.cycle_left();
     let some = stage.random.below(left as usize + 1) as u32;
     let wish = stage.random.pick(&[
         0,
@@ -98,8 +99,9 @@ fn edge(stage: &mut Stage) {
 }
 
 /// More than 256 cycles in RUN without a break. Each sync of the second round is byte for byte
-/// one of the first.
+/// one of the first. In cycles of 1 ms each sync is in its window.
 pub fn marathon(stage: &mut Stage) {
+    set_limits(stage, 1, 9, 255);
     stage.reach_run();
     for step in 0..260 {
         if step % 16 == 0 {

@@ -5,13 +5,16 @@ use super::super::speech;
 use super::stage::Stage;
 use crate::frame::{Head, SidAssignment, BROADCAST};
 use crate::module::registers::{HOLD, OUT_REP, RELEASE, TID};
-use crate::module::{first_seq, Mode};
+use crate::module::{first_seq, Mode, UNMARKED};
 
 /// The address of all modules.
 pub const MODULES: u8 = 0x90;
 
 /// No scene tries for ever, whatever the module does. A right one needs one or two tries.
 pub const TRIES: usize = 10;
+
+/// One sync in this many does not wait for its window.
+const TOO_EARLY: usize = 40;
 
 /// A wait that is short enough to be played whole.
 const WAIT_MAX: u32 = 20_000;
@@ -97,14 +100,19 @@ impl Stage {
         }
     }
 
-    /// A CYC that a sync of the active concentrator may have now.
+    /// A CYC that a sync of the active concentrator may have now. In RUN it is one in its window, if
+    /// there is one.
     pub fn next_cycle(&mut self) -> u8 {
         let (cycle, heard) = (self.agent().cycle, self.agent().heard);
         let next = cycle.wrapping_add(1);
         if self.running() {
-            return match heard {
-                true => next,
-                false => self.random.pick(&[cycle, cycle, next]),
+            let mut fitting = vec![cycle, cycle, next];
+            fitting.retain(|&cyc| self.agent().expects(cyc));
+            let mut in_time = fitting.clone();
+            in_time.retain(|&cyc| self.agent().in_window(cyc));
+            return match in_time.is_empty() {
+                true => self.random.pick(&fitting),
+                false => self.random.pick(&in_time),
             };
         }
         let near_wrap = self.random.pick(&[0xFD, 0xFE, 0xFF, 0x00]);
@@ -116,7 +124,37 @@ impl Stage {
         }
     }
 
+    /// The ms up to the end of the cycle.
+    pub fn cycle_left(&self) -> u32 {
+        let cycle = self.registers().tcyc() as u32;
+        cycle.saturating_sub(self.agent().in_cycle as u32)
+    }
+
+    /// In RUN, up to where a sync is in its window: late in the cycle or, if no mark has to go
+    /// before, early in the next one. Never so long that RUN would end; now and then not at all.
+    pub fn reach_window(&mut self) {
+        let cyc = self.next_cycle();
+        if !self.running() || self.agent().in_window(cyc) || self.random.one_in(TOO_EARLY) {
+            return;
+        }
+        let (left, width) = (self.cycle_left(), self.agent().window_width() as u32);
+        let mut waits = vec![left - width, left - 1];
+        if self.agent().mark == UNMARKED {
+            let late = self.random.below(width as usize + 1) as u32;
+            waits.extend([left, left, left + late]);
+        }
+        waits.retain(|&wait| wait <= self.patience());
+        if !waits.is_empty() {
+            let wait = self.random.pick(&waits);
+            match self.random.one_in(4) {
+                true => self.ticks(wait),
+                false => self.held(wait),
+            }
+        }
+    }
+
     pub fn begin_cycle(&mut self) {
+        self.reach_window();
         let cyc = self.next_cycle();
         self.sync(self.active(), cyc);
     }

@@ -5,8 +5,8 @@ mod faults;
 mod floods;
 mod lines;
 mod manners;
-mod marks;
 mod names;
+mod notes;
 mod opening;
 mod pairs;
 mod reads;
@@ -16,6 +16,7 @@ mod spans;
 mod stage;
 mod takeover;
 mod turns;
+mod windows;
 
 use crate::module::Fixed;
 use stage::Stage;
@@ -23,10 +24,12 @@ use stage::Stage;
 type Scene = fn(&mut Stage);
 
 /// The scenes and how often each is in a deck.
-const SCENES: [(Scene, usize); 43] = [
+const SCENES: [(Scene, usize); 45] = [
     (cycles::steady, 4),
-    (cycles::wrap, 2),
-    (takeover::in_run, 5),
+    (cycles::wrap, 3),
+    (windows::edges, 11),
+    (windows::silence, 3),
+    (takeover::in_run, 7),
     (takeover::in_fallback, 2),
     (takeover::round, 1),
     (takeover::late_closing, 2),
@@ -35,42 +38,42 @@ const SCENES: [(Scene, usize); 43] = [
     (settings::references, 3),
     (settings::shorter, 1),
     (silences::sync, 3),
-    (silences::outputs, 5),
+    (silences::outputs, 6),
     (silences::inputs_alone, 3),
-    (silences::pending_release, 3),
+    (silences::pending_release, 4),
     (silences::after_refusal, 2),
     (silences::long, 2),
-    (spans::edges, 6),
+    (spans::edges, 8),
     (spans::outside, 2),
-    (spans::release_values, 3),
+    (spans::release_values, 4),
     (reads::edges, 4),
     (reads::statut, 3),
-    (floods::full_cycle, 1),
+    (floods::full_cycle, 2),
     (turns::cycle, 3),
     (turns::repeats, 3),
-    (turns::order, 3),
-    (turns::sync, 4),
+    (turns::order, 4),
+    (turns::sync, 5),
     (turns::echo, 3),
-    (names::tids, 3),
-    (names::sids, 11),
-    (faults::line, 8),
-    (faults::addresses, 6),
-    (faults::typs, 3),
-    (faults::lengths, 5),
-    (faults::forms, 4),
-    (faults::crcs, 7),
-    (faults::sources, 4),
+    (names::tids, 4),
+    (names::sids, 18),
+    (faults::line, 14),
+    (faults::addresses, 10),
+    (faults::typs, 4),
+    (faults::lengths, 6),
+    (faults::forms, 5),
+    (faults::crcs, 11),
+    (faults::sources, 5),
     (faults::identities, 4),
     (faults::changed, 3),
     (pairs::outer, 3),
-    (pairs::requests, 3),
+    (pairs::requests, 4),
     (pairs::others, 2),
-    (marks::counters, 2),
-    (marks::silent, 3),
+    (notes::counters, 2),
+    (notes::silent, 3),
 ];
 
 /// Lines that are not frames, also in every deck.
-const LINE_SCENES: [(Scene, usize); 3] = [(lines::bad, 5), (lines::long, 1), (lines::ports, 8)];
+const LINE_SCENES: [(Scene, usize); 3] = [(lines::bad, 5), (lines::long, 1), (lines::ports, 14)];
 
 /// Long scenes, each played once in a long script, when this many hundredths of it are done.
 const ONCE: [(usize, Scene); 2] = [(40, cycles::marathon), (60, lines::huge)];

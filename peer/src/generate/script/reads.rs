@@ -51,7 +51,7 @@ pub fn edges(stage: &mut Stage) {
     }
 }
 
-/// With something to show: marks from a bad line and from a request out of order.
+/// With something to show: bits from a bad line and from a request out of order.
 pub fn statut(stage: &mut Stage) {
     stage.some_mode(6);
     for port in [1, 2] {

@@ -4,7 +4,9 @@ use super::cycles;
 use super::stage::Stage;
 use crate::module::registers::{AD_REF, CNF_REP, CONF, OUT_REP, RELEASE, SILENT, TCYC};
 
-const CYCLE_TIMES: [u8; 14] = [1, 2, 3, 4, 5, 7, 10, 10, 12, 15, 20, 20, 50, 255];
+const CYCLE_TIMES: [u8; 20] = [
+    1, 2, 3, 4, 5, 7, 8, 9, 10, 12, 15, 16, 17, 20, 20, 24, 40, 50, 64, 255,
+];
 const SYNC_CYCLES: [u8; 8] = [1, 2, 2, 2, 3, 4, 5, 9];
 const OUTPUT_CYCLES: [u8; 8] = [1, 2, 3, 5, 5, 6, 8, 255];
 

@@ -71,7 +71,7 @@ fn refused_sync(stage: &mut Stage) {
     stage.say(&body);
 }
 
-/// Syncs on time, or half a cycle late, but no output write: RUN to the last tick but one, fallback at the last.
+/// Syncs on time, or as late as the window lets them, but no output write: RUN to the last tick but one, fallback at the last.
 pub fn outputs(stage: &mut Stage) {
     let (time, cycles) = (
         stage.random.pick(&[2, 5, 10]),
@@ -97,7 +97,8 @@ fn wait_without_outputs(stage: &mut Stage) {
             return;
         }
         let cycle = stage.registers().tcyc() as u32;
-        let wish = stage.random.pick(&[cycle, cycle + cycle / 2]);
+        let late = cycle + stage.agent().window_width() as u32;
+        let wish = stage.random.pick(&[cycle, late]);
         let step = wish.min(stage.patience());
         stage.ticks(step);
         if stage.agent().since_output + 1 < stage.agent().output_limit() || step == 0 {

@@ -85,7 +85,7 @@ impl Stage {
     }
 
     /// Ticks with the inputs held.
-    fn held(&mut self, count: u32) {
+    pub fn held(&mut self, count: u32) {
         let mut left = count;
         while left > 0 {
             let now = left.min(TICKS_MAX);

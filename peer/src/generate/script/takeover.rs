@@ -16,6 +16,7 @@ pub fn in_run(stage: &mut Stage) {
     if stage.random.one_in(2) {
         pass_time(stage);
     }
+    stage.reach_window();
     let cyc = stage.next_cycle();
     stage.sync(next, cyc);
     late_writes(stage, old, late);
@@ -39,9 +40,7 @@ pub fn late_closing(stage: &mut Stage) {
     }
     write_outputs(stage);
     let (old, late) = (stage.active(), stage.head());
-    let cycle = stage.registers().tcyc() as u32;
-    let left = cycle.saturating_sub(stage.agent().in_cycle as u32);
-    stage.ticks(left.min(stage.patience()));
+    stage.ticks(stage.cycle_left().min(stage.patience()));
     let cyc = stage.next_cycle();
     let sync = speech::sync(next, cyc).body();
     stage.say_on(1, &sync);
@@ -67,8 +66,11 @@ fn late_writes(stage: &mut Stage, old: u32, late: Head) {
     }
 }
 
-/// A sync of the deposed one: of its last cycle, of this one, or of the next.
+/// A sync of the deposed one: of its last cycle, of this one, or of the next, now or in its window.
 fn late_sync(stage: &mut Stage, old: u32) {
+    if stage.random.one_in(2) {
+        stage.reach_window();
+    }
     let cycle = stage.agent().cycle;
     let step = stage.random.pick(&[0xFF, 0x00, 0x01, 0x01, 0x02]);
     stage.sync(old, cycle.wrapping_add(step));
@@ -97,6 +99,7 @@ pub fn in_fallback(stage: &mut Stage) {
 pub fn round(stage: &mut Stage) {
     stage.reach_run();
     for src in stage.agent().recorded.clone() {
+        stage.reach_window();
         let cyc = stage.next_cycle();
         stage.sync(src, cyc);
         if stage.random.one_in(3) {

@@ -23,8 +23,7 @@ pub fn cycle(stage: &mut Stage) {
         );
         stage.send(&speech::read(address, head, 1, 0x20));
     }
-    let left = stage.registers().tcyc() as u32 - stage.agent().in_cycle.min(254) as u32;
-    stage.ticks(left);
+    stage.ticks(stage.cycle_left());
     write_unheard(stage);
     stage.begin_cycle();
     stage.read(7, 0x1E);
@@ -83,8 +82,7 @@ pub fn order(stage: &mut Stage) {
 pub fn sync(stage: &mut Stage) {
     stage.some_mode(1);
     if stage.random.one_in(3) {
-        let left = stage.registers().tcyc() as u32 - stage.agent().in_cycle.min(254) as u32;
-        stage.ticks(left.min(stage.patience()));
+        stage.ticks(stage.cycle_left().min(stage.patience()));
     }
     if stage.running() {
         write_outputs(stage);

@@ -8,7 +8,7 @@ is-recorded-requires : tie.Need-is-recorded-requires
 is-recorded-requires c κs = search needs
 
 returns : tie.Need-returns
-returns c = counters-law _ _ (c .before .before .before .before .before .before .is-recorded .ensures)
+returns c = counters-law _ _ (c .before .before .before .before .before .before .before .before .is-recorded .ensures)
 
 pub counters-sound-spec : {M : Type 1} → statement M
 counters-sound-spec = tie.close (tie.spec is-recorded-requires returns)

@@ -12,31 +12,38 @@ at-sync-limit-requires c κs = search needs
 at-command-limit-requires : tie.Need-at-command-limit-requires
 at-command-limit-requires c κs = search needs
 
+at-window-limit-requires : tie.Need-at-window-limit-requires
+at-window-limit-requires c κs = search needs
+
 mode-after-requires : tie.Need-mode-after-requires
 mode-after-requires c κs = search needs
 
 idle-after-requires : tie.Need-idle-after-requires
 idle-after-requires c κs = search needs
 
+mark-after-requires : tie.Need-mark-after-requires
+mark-after-requires c κs = search needs
+
 mark-fall-requires : tie.Need-mark-fall-requires
 mark-fall-requires c κs = search needs
 
 mask-outputs-requires : tie.Need-mask-outputs-requires
 mask-outputs-requires c κs =
-    let m = c .before .before .before .before in
+    let m = c .before .before .before .before .before in
     let t = m .before in
-    let s = t .before .before in
-    mode-is (t .before .at-sync-limit .result || t .at-command-limit .result) _ _ (s .args .a .regs) (m .mode-after .ensures) (s .pre)
+    let s = t .before .before .before in
+    mode-is (t .before .before .at-sync-limit .result || t .before .at-command-limit .result || t .at-window-limit .result) _ _ (s .args .a .regs) (m .mode-after .ensures) (s .pre)
 
 returns : tie.Need-returns
 returns c =
     let m = c .before .before in
-    let i = m .before .before in
+    let k = m .before .before in
+    let i = k .before in
     let t = i .before .before in
-    let s = t .before .before in
-    limit-law (s .args .a) (m .mark-fall .last .0) (c .mask-outputs .last .0) _ _ _
-    (ap₂ _||_ (t .before .at-sync-limit .ensures) (t .at-command-limit .ensures)) (s .pre)
-    (i .before .mode-after .ensures) (i .idle-after .ensures) (m .mark-fall .ensures) (c .mask-outputs .ensures)
+    let s = t .before .before .before in
+    limit-law (s .args .a) (m .mark-fall .last .0) (c .mask-outputs .last .0) _ _ _ _
+    (ap₂ _||_ (ap₂ _||_ (t .before .before .at-sync-limit .ensures) (t .before .at-command-limit .ensures)) (t .at-window-limit .ensures)) (s .pre)
+    (i .before .mode-after .ensures) (i .idle-after .ensures) (k .mark-after .ensures) (m .mark-fall .ensures) (c .mask-outputs .ensures)
 
 pub limit-spec : {M : Type 1} → statement M
 limit-spec =
@@ -44,8 +51,10 @@ limit-spec =
     (tie.spec
     at-sync-limit-requires
     at-command-limit-requires
+    at-window-limit-requires
     mode-after-requires
     idle-after-requires
+    mark-after-requires
     mark-fall-requires
     mask-outputs-requires
     returns)

@@ -1,11 +1,11 @@
-//! What a refusal leaves in the registers: bits of STATUT and counts.
+//! What a refusal leaves: bits of STATUT, counts, and the mark.
 
 use super::registers::{BFO, CPT_FOR, CPT_SEQ, ESE, STATUT};
-use super::Agent;
+use super::{Agent, MARKED};
 use crate::refusal::Refusal;
 
 impl Agent {
-    pub(super) fn mark(&mut self, refusal: Refusal) {
+    pub(super) fn note(&mut self, refusal: Refusal) {
         match refusal {
             Refusal::BodySize | Refusal::Stuffing | Refusal::UnstuffedSize | Refusal::Fcs => {
                 self.registers[STATUT] |= BFO;
@@ -17,6 +17,10 @@ impl Agent {
             Refusal::Cycle | Refusal::OutOfOrder => {
                 self.registers[STATUT] |= ESE;
                 self.registers.count(CPT_SEQ);
+            }
+            Refusal::Window => {
+                self.registers[STATUT] |= ESE;
+                self.mark = MARKED;
             }
             _ => {}
         }
