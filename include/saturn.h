@@ -22,7 +22,7 @@
  * - x86-64 with SSE2 and the System V calling convention. It uses SSE registers and the red zone: on bare metal enable SSE
  *   before the first call, and let no interrupt use the 128 bytes below the stack pointer.
  * - memcpy and memset only: no heap, no other library.
- * - 4,032 bytes of stack in the deepest call (measured, not proved; docs/PROVED.md, 'Figures').
+ * - 4,240 bytes of stack in the deepest call (measured, not proved; docs/PROVED.md, 'Figures').
  * It writes no static data. Agents may run in parallel, each with its own buffers. */
 #ifndef SATURN_H
 #define SATURN_H
@@ -32,9 +32,9 @@
 
 /* the version of this header, and of the library that it was installed with */
 #define SATURN_VERSION_MAJOR 4
-#define SATURN_VERSION_MINOR 0
+#define SATURN_VERSION_MINOR 1
 #define SATURN_VERSION_PATCH 0
-#define SATURN_VERSION "4.0.0"
+#define SATURN_VERSION "4.1.0"
 
 #ifdef __cplusplus
 extern "C" {
@@ -98,8 +98,19 @@ enum {
     SATURN_REG_CPT_SYNC = 0x23,
     SATURN_REG_CPT_FOR = 0x24,   /* frames of a TYP that is not served */
     SATURN_REG_CONF = 0x25,      /* bit 2 set: nothing is sent */
+    SATURN_REG_GROUND = 0x26,    /* why the module last left RUN: SATURN_GROUND_...; read only */
     SATURN_REG_OUTPUTS = 0x80,   /* SATURN_IMAGE bytes: the output image */
     SATURN_REG_INPUTS = 0xC0     /* SATURN_IMAGE bytes: the inputs */
+};
+
+/* register 26h: the ground of the last passage from RUN to fallback; entering RUN again does not clear it */
+enum {
+    SATURN_GROUND_NONE = 0,            /* none since power-up */
+    SATURN_GROUND_SYNC_SILENCE = 1,    /* n cycles without an accepted sync, whatever else the same tick met */
+    SATURN_GROUND_COMMAND_SILENCE = 2, /* m cycles in RUN without an output write */
+    SATURN_GROUND_WRONG_CYCLE = 3,     /* a sync was refused with 12 */
+    SATURN_GROUND_ORDER = 4,           /* AAh was written to 17h */
+    SATURN_GROUND_WINDOW = 5           /* a sync was refused with 22, and none was accepted until the cycle ended */
 };
 
 /* the number of outputs, and of inputs, in bytes */
@@ -168,6 +179,20 @@ static inline const char *saturn_answer_text(uint8_t answer)
     case SATURN_HOST_INPUT: return "port not 1 or 2, or inputs not 64 bytes";
     case SATURN_OUTSIDE_WINDOW: return "sync outside its window";
     default: return "not an answer";
+    }
+}
+
+/* A ground in words, for logs and displays. */
+static inline const char *saturn_ground_text(uint8_t ground)
+{
+    switch (ground) {
+    case SATURN_GROUND_NONE: return "none since power-up";
+    case SATURN_GROUND_SYNC_SILENCE: return "sync silence";
+    case SATURN_GROUND_COMMAND_SILENCE: return "command silence";
+    case SATURN_GROUND_WRONG_CYCLE: return "wrong cycle";
+    case SATURN_GROUND_ORDER: return "order";
+    case SATURN_GROUND_WINDOW: return "window";
+    default: return "not a ground";
     }
 }
 

@@ -53,13 +53,24 @@ static void registers_at_power_up(void)
         {SATURN_REG_TID, 0x8F},     {SATURN_REG_SID, 0xFF},     {SATURN_REG_SID + 2, 0xFF}, {SATURN_REG_OUT_REP, 0xAA},
         {SATURN_REG_TCYC, 0xFF},    {SATURN_REG_STATUT, 0x80},  {SATURN_REG_CNF_REP, 0x05}, {SATURN_REG_CNF_CYC, 0x02},
         {SATURN_REG_AD_REF, 0x80},  {SATURN_REG_SZ_REF, 0x08},  {SATURN_REG_CPT_SEQ, 0},    {SATURN_REG_CPT_FOR, 0},
-        {SATURN_REG_CONF, 0},       {SATURN_REG_CONF + 1, 0xFF}, {SATURN_REG_OUTPUTS - 1, 0xFF}, {SATURN_REG_OUTPUTS, 0},
-        {SATURN_REG_INPUTS + SATURN_IMAGE - 1, 0},
+        {SATURN_REG_CONF, 0},       {SATURN_REG_GROUND, SATURN_GROUND_NONE}, {SATURN_REG_GROUND + 1, 0xFF},
+        {SATURN_REG_OUTPUTS - 1, 0xFF}, {SATURN_REG_OUTPUTS, 0}, {SATURN_REG_INPUTS + SATURN_IMAGE - 1, 0},
     };
     for (unsigned i = 0; i < 8; i++)
         expect(m.agent.regs[SATURN_REG_MAC + i] == i + 1, "MAC");
     for (unsigned i = 0; i < sizeof wanted / sizeof wanted[0]; i++)
         expect(m.agent.regs[wanted[i].at] == wanted[i].value, "the registers at power-up, by their addresses");
+}
+
+/* in RUN, 300 ms after the last sync, and with the mark set: the tick that makes 510 ms of silence ends the cycle too */
+static void ground_shown(void)
+{
+    for (unsigned i = 0; i < 209; i++)
+        saturn_tick(&m.agent, given, sizeof given);
+    expect(m.agent.mode == SATURN_RUN && m.agent.regs[SATURN_REG_GROUND] == SATURN_GROUND_NONE, "no ground in the first RUN");
+    saturn_tick(&m.agent, given, sizeof given);
+    expect(m.agent.mode == SATURN_FALLBACK, "fallback");
+    expect(m.agent.regs[SATURN_REG_GROUND] == SATURN_GROUND_SYNC_SILENCE, "the ground is sync silence, not the window");
 }
 
 int main(void)
@@ -113,6 +124,9 @@ int main(void)
     unsound(offsetof(saturn_agent, silence) + 1, 0xFF, "silence is where the library has it");
     unsound(offsetof(saturn_agent, last), 9, "last is where the library has it");
     unsound(offsetof(saturn_agent, known) + 3, 1, "known is where the library has it");
+    unsound(offsetof(saturn_agent, regs) + SATURN_REG_GROUND, SATURN_GROUND_WINDOW + 1, "the ground is where the library has it");
+
+    ground_shown();
 
     if (failed == 0)
         printf("layout: ok, %zu bytes\n", sizeof(saturn_agent));

@@ -34,8 +34,10 @@ static void after_call(uint8_t answer)
 
 static void show(const char *event, uint8_t answer, uint16_t sent)
 {
-    printf("%6lu ms  %-52s answer %2u  %-8s  cycle %02X  outputs %02X %02X  reply ", now_ms, event, answer,
-           module.mode == SATURN_RUN ? "RUN" : "fallback", module.cycle, terminals[0], terminals[1]);
+    uint8_t ground = module.regs[SATURN_REG_GROUND]; /* why the module last left RUN */
+    printf("%6lu ms  %-52s answer %2u  %-8s  cycle %02X  outputs %02X %02X  ground %02X (%s)  reply ", now_ms, event, answer,
+           module.mode == SATURN_RUN ? "RUN" : "fallback", module.cycle, terminals[0], terminals[1], ground,
+           saturn_ground_text(ground));
     if (sent == 0) {
         puts("-");
         return;

@@ -13,11 +13,11 @@ pub power-regs-law : (mac iid ver : ℕ) (zeros macked iided vered set-up all : 
     → iided ≡ sets macked iidAt (lowBytes 8 iid)
     → vered ≡ sets (set iided typAt 0x82) verAt (lowBytes 2 ver)
     → set-up ≡ sets vered tidAt settings
-    → all ≡ sets set-up 0x26 (replicate 90 0xFF)
+    → all ≡ sets set-up 0x27 (replicate 89 0xFF)
     → all ≡ powerRegs mac iid ver
 unfolding powerRegs
 power-regs-law mac iid ver zeros macked iided vered set-up all p q r s t u =
-    u ∙ ap (λ (l : List ℕ). sets l 0x26 (replicate 90 0xFF))
+    u ∙ ap (λ (l : List ℕ). sets l 0x27 (replicate 89 0xFF))
     (t ∙ ap (λ (l : List ℕ). sets l tidAt settings)
     (s ∙ ap (λ (l : List ℕ). sets (set l typAt 0x82) verAt (lowBytes 2 ver))
     (r ∙ ap (λ (l : List ℕ). sets l iidAt (lowBytes 8 iid))

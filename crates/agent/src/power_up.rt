@@ -52,7 +52,7 @@ fn put_settings(regs: &mut [u8; 256])
     regs[SZ_REF] = 0x08;
 }
 
-// MAC, IID, TYP 82h and VER, the settings, 26h to 7Fh = FFh.
+// MAC, IID, TYP 82h and VER, the settings, 27h to 7Fh = FFh; 26h stays 0, no ground.
 fn power_regs(mac: u64, iid: u64, ver: u16) -> [u8; 256]
     ensures { λ r. ⌜ r ≡ powerRegs mac iid ver ⌝ }
 {
@@ -62,7 +62,7 @@ fn power_regs(mac: u64, iid: u64, ver: u16) -> [u8; 256]
     regs[TYP] = 0x82;
     put_low(&mut regs, VER, 2, ver as u64);
     put_settings(&mut regs);
-    fill(&mut regs, 0x26, 90, 0xFF);
+    fill(&mut regs, 0x27, 89, 0xFF);
     regs
 }
 

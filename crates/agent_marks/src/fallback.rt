@@ -1,6 +1,8 @@
 // Entering fallback, and entering RUN.
 ghost use mathlib.Core.Path.{_≡_};
 ghost use Rattle.rules.specs.Fallback.{enterFallback, enterRun};
+use agent_state::grounds::ground_after;
+use agent_state::registers::GROUND;
 use agent_state::registers::IMAGE;
 use agent_state::registers::OUT_REP;
 use agent_state::registers::OUTPUTS;
@@ -12,13 +14,15 @@ use agent_state::state::UNMARKED;
 use agent_state::state::WITHHELD;
 use rules::Agent;
 
-// Sets 80h to BFh to 00h, OUT_REP to AAh, q to 0 and STATUT bit 7, and clears the mark.
-pub fn enter_fallback(a: Agent) -> Agent
-    ensures { λ r. ⌜ r ≡ enterFallback a ⌝ }
+// Sets 80h to BFh to 00h, OUT_REP to AAh, q to 0 and STATUT bit 7, and clears the mark; from RUN, 26h shows the ground.
+pub fn enter_fallback(ground: u8, a: Agent) -> Agent
+    ensures { λ r. ⌜ r ≡ enterFallback ground a ⌝ }
 {
+    let shown = ground_after(a.mode, ground, a.regs[GROUND]);
     let mut next = a;
     next.regs[STATUT] = next.regs[STATUT] | 0x80;
     next.regs[OUT_REP] = WITHHELD;
+    next.regs[GROUND] = shown;
     fill(&mut next.regs, OUTPUTS, IMAGE, 0);
     next.mode = IN_FALLBACK;
     next.idle = 0;

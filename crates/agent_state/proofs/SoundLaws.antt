@@ -11,7 +11,8 @@ use lib.ListN.{getD}
 use Rattle.rules.specs.Assignments.{assignable}
 use Rattle.rules.specs.Fallback.{released, withheld}
 use Rattle.rules.specs.Fixed.{isLimit, limitOf}
-use Rattle.rules.specs.Registers.{typAt, tidAt, outRep, statut, outputsAt}
+use Rattle.rules.specs.Grounds.{isGround}
+use Rattle.rules.specs.Registers.{typAt, tidAt, outRep, statut, groundAt, outputsAt}
 use Rattle.rules.specs.Sound.{settingsSound, sourcesSound, countersSound, outputsZero, runSound, fallbackSound, sound}
 use Rattle.rules.specs.Sources.{distinct, below24, isRecorded, sidOf}
 use Rattle.rules.specs.State.{inRun, inFallback, isHeard, unheard, isMarked, unmarked, nobody, reg, tOf, nOf, mOf}
@@ -20,7 +21,7 @@ use Rattle.rules.proofs.SoundParts.{fits-is}
 
 pub settings-law : (a : Agent) (free fit : Bool) → free ≡ assignable (reg a tidAt) → fit ≡ isLimit (limitOf a)
     → (not (eqb (tOf a) 0) && not (eqb (nOf a) 0) && not (eqb (mOf a) 0) && (eqb (reg a outRep) released || eqb (reg a outRep) withheld)
-    && (eqb (reg a tidAt) 0x8F || free) && eqb (reg a typAt) 0x82 && fit)
+    && (eqb (reg a tidAt) 0x8F || free) && eqb (reg a typAt) 0x82 && isGround (reg a groundAt) && fit)
     ≡ settingsSound a
 unfolding settingsSound
 settings-law a free fit p q = rw (p, q, fits-is (a .fixed))

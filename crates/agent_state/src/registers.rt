@@ -37,6 +37,9 @@ pub const CPT_FOR: usize = 0x24;
 
 pub const CONF: usize = 0x25;
 
+// Why the module last left RUN (document 02).
+pub const GROUND: usize = 0x26;
+
 pub const OUTPUTS: usize = 0x80;
 
 pub const INPUTS: usize = 0xC0;

@@ -3,9 +3,11 @@
 ghost use mathlib.Core.Path.{_≡_};
 ghost use Rattle.rules.specs.Registers.{image};
 ghost use Rattle.rules.specs.Sound.{settingsSound, sourcesSound, countersSound, outputsZero, runSound, fallbackSound, sound};
+use crate::grounds::BY_WINDOW;
 use crate::limit::is_limit;
 use crate::registers::CNF_CYC;
 use crate::registers::CNF_REP;
+use crate::registers::GROUND;
 use crate::registers::IMAGE;
 use crate::registers::OUT_REP;
 use crate::registers::OUTPUTS;
@@ -30,7 +32,8 @@ use crate::tid::UNASSIGNED;
 use crate::tid::assignable;
 use rules::Agent;
 
-// t, n, m are not 0, OUT_REP is 55h or AAh, TID is 8Fh or assignable, TYP is 82h; the limit of requests is 16 or 64.
+// t, n, m are not 0, OUT_REP is 55h or AAh, TID is 8Fh or assignable, TYP is 82h, 26h is 0 to 5; the limit of requests is 16
+// or 64.
 fn settings_sound(a: Agent) -> bool
     ensures { λ r. ⌜ r ≡ settingsSound a ⌝ }
 {
@@ -44,6 +47,7 @@ fn settings_sound(a: Agent) -> bool
         & ((release == RELEASED) | (release == WITHHELD))
         & ((tid == UNASSIGNED) | free)
         & (a.regs[TYP] == 0x82)
+        & (a.regs[GROUND] <= BY_WINDOW)
         & fit
 }
 

@@ -15,6 +15,7 @@ use agent_state::answers::CYCLE;
 use agent_state::answers::OUTSIDE_WINDOW;
 use agent_state::answers::REPEAT;
 use agent_state::answers::SOURCE;
+use agent_state::grounds::BY_WRONG_CYCLE;
 use agent_state::registers::OUT_REP;
 use agent_state::registers::TCYC;
 use agent_state::sources::is_recorded;
@@ -105,7 +106,7 @@ pub fn on_sync(port: u8, a: Agent, src: u32, cyc: u8) -> Deed
     let fits = cycle_fits(a, cyc);
     let wrong = (a.mode == IN_RUN) & !fits;
     if wrong {
-        return does(CYCLE, enter_fallback(sequence_marked(a)));
+        return does(CYCLE, enter_fallback(BY_WRONG_CYCLE, sequence_marked(a)));
     }
     let timely = in_window(a, cyc);
     let missed = (a.mode == IN_RUN) & !timely;

@@ -12,12 +12,13 @@ use lib.Dec.{eqb, ltb}
 use lib.ListN.{getD, replicate, set}
 use lib.Seq.{sets}
 use Rattle.base.specs.Choice.{choose}
-use Rattle.base.proofs.Choosing.{never, by-test, choose-true, choose-false, or-cases, or-left-false, or-right-false}
+use Rattle.base.proofs.Choosing.{never, choose-true, choose-false, or-left-false, or-right-false}
 use Rattle.base.proofs.Fills.{fill-turn}
-use Rattle.agent_ticks.specs.Limited.{Shows, fallMarked}
-use Rattle.rules.specs.Fallback.{enterFallback}
-use Rattle.rules.specs.Registers.{outputsAt, image}
-use Rattle.rules.specs.State.{inRun, inFallback, unheard, unmarked, running, tOf, withRegs, withMode, withMark, withClock, withCycle}
+use Rattle.agent_ticks.specs.Limited.{Shows, firstGround, fallMarked}
+use Rattle.rules.specs.Fallback.{groundAfter, enterFallback}
+use Rattle.rules.specs.Grounds.{bySyncSilence, byCommandSilence, byWindow}
+use Rattle.rules.specs.Registers.{groundAt, outputsAt, image}
+use Rattle.rules.specs.State.{inRun, inFallback, unheard, unmarked, running, reg, tOf, withRegs, withMode, withMark, withClock, withCycle}
 use Rattle.rules.specs.Tick.{silenceEnd, counted, syncLimit, commandLimit, windowLimit, limited, cycleEnded, ticked}
 use Rattle.rules.specs.declared.Agent.{Agent}
 
@@ -79,12 +80,24 @@ zeros-stay (suc n) i r z =
 abbrev pub atLimit : Agent → Bool
 atLimit a = syncLimit a || commandLimit a || windowLimit a
 
-at-limit : (a : Agent) → atLimit a ≡ true → limited a ≡ enterFallback a
+abbrev pub tickGround : Agent → ℕ
+tickGround a = firstGround (syncLimit a) (commandLimit a)
+
+-- what 26h shows if the module falls
+pub shown-law : (a : Agent) (sync command : Bool) (ground shown : ℕ) → sync ≡ syncLimit a → command ≡ commandLimit a → ground ≡ firstGround sync command
+    → shown ≡ choose (running a) ground (reg a groundAt) → shown ≡ groundAfter (tickGround a) a
+shown-law a sync command ground shown p q e f = f ∙ ap (λ (x : ℕ). choose (running a) x (reg a groundAt)) (e ∙ ap₂ firstGround p q)
+
+at-limit : (a : Agent) → atLimit a ≡ true → limited a ≡ enterFallback (tickGround a) a
 unfolding limited
-at-limit a e =
-    by-test (λ (b : Agent). b ≡ enterFallback a) (syncLimit a) (λ h. refl)
-    (λ h. by-test (λ (b : Agent). b ≡ enterFallback a) (commandLimit a) (λ k. refl)
-    (λ k. choose-true _ _ (or-cases (syncLimit a || commandLimit a) (windowLimit a) e (λ t. never (sym (ap₂ _||_ h k) ∙ t)) (λ t. t))))
+at-limit a e = go (syncLimit a) (commandLimit a) (windowLimit a) e
+  where
+    go : (s c w : Bool) → (s || c || w) ≡ true
+        → choose s (enterFallback bySyncSilence a) (choose c (enterFallback byCommandSilence a) (choose w (enterFallback byWindow a) a)) ≡ enterFallback (firstGround s c) a
+    go true c w h = refl
+    go false true w h = refl
+    go false false true h = refl
+    go false false false h = never h
 
 below-limits : (a : Agent) → atLimit a ≡ false → limited a ≡ a
 unfolding limited
@@ -122,12 +135,13 @@ abbrev afterwards : Agent → ℕ → ℕ → ℕ → List ℕ → Agent
 afterwards a mode idle mark q = withMark mark (withMode mode idle (withRegs q a))
 
 module _ (a : Agent) (r q : List ℕ) (mode idle mark : ℕ) where
-  fell : atLimit a ≡ true → r ≡ fallMarked (a .regs) → mode ≡ inFallback → idle ≡ 0 → mark ≡ unmarked → Masked mode r q
-      → afterwards a mode idle mark q ≡ limited a
+  fell : (shown : ℕ) → shown ≡ groundAfter (tickGround a) a → atLimit a ≡ true → r ≡ fallMarked shown (a .regs) → mode ≡ inFallback → idle ≡ 0 → mark ≡ unmarked
+      → Masked mode r q → afterwards a mode idle mark q ≡ limited a
   unfolding enterFallback
-  fell e f m i x k =
+  fell shown g e f m i x k =
       ap₂ (λ (y z : ℕ). afterwards a y z mark q) m i
-      ∙ ap₂ (λ (y : ℕ) (l : List ℕ). afterwards a inFallback 0 y l) x (in-fallback mode r q m k ∙ ap cold f)
+      ∙ ap₂ (λ (y : ℕ) (l : List ℕ). afterwards a inFallback 0 y l) x
+      (in-fallback mode r q m k ∙ ap cold (f ∙ ap (λ (y : ℕ). fallMarked y (a .regs)) g))
       ∙ sym (at-limit a e)
 
   stays : atLimit a ≡ false → r ≡ a .regs → mode ≡ a .mode → idle ≡ a .idle → mark ≡ a .mark → Shows (a .mode) (a .regs) → Masked mode r q
@@ -138,11 +152,12 @@ module _ (a : Agent) (r q : List ℕ) (mode idle mark : ℕ) where
       (λ h. in-fallback mode r q (m ∙ h .0) k ∙ ap cold f ∙ zeros-stay image outputsAt (a .regs) (h .1)) s in
       ap₂ (λ (y z : ℕ). afterwards a y z mark q) m i ∙ ap₂ (λ (y : ℕ) (l : List ℕ). withMark y (withRegs l a)) x same ∙ sym (below-limits a e)
 
-pub limit-law : (a : Agent) (r q : List ℕ) (falls : Bool) (mode idle mark : ℕ) → falls ≡ atLimit a → Shows (a .mode) (a .regs)
+pub limit-law : (a : Agent) (r q : List ℕ) (falls : Bool) (shown mode idle mark : ℕ) → falls ≡ atLimit a → Shows (a .mode) (a .regs)
+    → shown ≡ groundAfter (tickGround a) a
     → mode ≡ choose falls inFallback (a .mode) → idle ≡ choose falls 0 (a .idle) → mark ≡ choose falls unmarked (a .mark)
-    → r ≡ choose falls (fallMarked (a .regs)) (a .regs) → Masked mode r q → afterwards a mode idle mark q ≡ limited a
-limit-law a r q true mode idle mark d s m i x f k = fell a r q mode idle mark (sym d) f m i x k
-limit-law a r q false mode idle mark d s m i x f k = stays a r q mode idle mark (sym d) f m i x s k
+    → r ≡ choose falls (fallMarked shown (a .regs)) (a .regs) → Masked mode r q → afterwards a mode idle mark q ≡ limited a
+limit-law a r q true shown mode idle mark d s g m i x f k = fell a r q mode idle mark shown g (sym d) f m i x k
+limit-law a r q false shown mode idle mark d s g m i x f k = stays a r q mode idle mark (sym d) f m i x s k
 
 -- the cycle goes on, and ends
 pub cycle-on : (a : Agent) → a .elapsed < tOf a → a ≡ cycleEnded a

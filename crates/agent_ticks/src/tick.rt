@@ -5,13 +5,18 @@ ghost use Prim.Native.Nat.{_+_, _<_};
 ghost use lib.Dec.{eqb, ltb};
 ghost use lib.ListN.{replicate};
 ghost use lib.Seq.{sets};
-ghost use Rattle.agent_ticks.specs.Limited.{Shows, fallMarked};
+ghost use Rattle.agent_ticks.specs.Limited.{Shows, firstGround, fallMarked};
 ghost use Rattle.base.specs.Choice.{choose};
 ghost use Rattle.rules.specs.Registers.{outputsAt, image};
 ghost use Rattle.rules.specs.State.{inRun, inFallback, unmarked};
 ghost use Rattle.rules.specs.Tick.{counted, limited, cycleEnded, ticked, silenceEnd, syncLimit, commandLimit, windowLimit};
+use agent_state::grounds::BY_COMMAND_SILENCE;
+use agent_state::grounds::BY_SYNC_SILENCE;
+use agent_state::grounds::BY_WINDOW;
+use agent_state::grounds::ground_after;
 use agent_state::registers::CNF_CYC;
 use agent_state::registers::CNF_REP;
+use agent_state::registers::GROUND;
 use agent_state::registers::IMAGE;
 use agent_state::registers::OUT_REP;
 use agent_state::registers::OUTPUTS;
@@ -79,6 +84,19 @@ fn at_window_limit(a: Agent) -> bool
     (a.mode == IN_RUN) & (a.mark == IS_MARKED) & (a.regs[TCYC] <= a.elapsed)
 }
 
+// The ground at a limit: the first that is reached.
+fn tick_ground(sync: bool, command: bool) -> u8
+    ensures { λ r. ⌜ r ≡ firstGround sync command ⌝ }
+{
+    if sync {
+        return BY_SYNC_SILENCE;
+    }
+    if command {
+        return BY_COMMAND_SILENCE;
+    }
+    BY_WINDOW
+}
+
 // The mode, or fallback if the module falls.
 fn mode_after(falls: bool, mode: u8) -> u8
     ensures { λ r. ⌜ r ≡ choose falls inFallback mode ⌝ }
@@ -100,15 +118,16 @@ fn mark_after(falls: bool, mark: u8) -> u8
     if falls { UNMARKED } else { mark }
 }
 
-// STATUT bit 7 and OUT_REP AAh if the module falls.
-fn mark_fall(regs: &mut [u8; 256], falls: bool)
-    ensures { λ _. ⌜ now (regs .exit) ≡ choose falls (fallMarked (now (regs .entry))) (now (regs .entry)) ⌝ }
+// STATUT bit 7, OUT_REP AAh and what 26h shows if the module falls.
+fn mark_fall(regs: &mut [u8; 256], falls: bool, shown: u8)
+    ensures { λ _. ⌜ now (regs .exit) ≡ choose falls (fallMarked shown (now (regs .entry))) (now (regs .entry)) ⌝ }
 {
     if !falls {
         return;
     }
     regs[STATUT] = regs[STATUT] | 0x80;
     regs[OUT_REP] = WITHHELD;
+    regs[GROUND] = shown;
 }
 
 // A byte under the mask FFh or 00h.
@@ -133,7 +152,8 @@ fn mask_outputs(regs: &mut [u8; 256], mode: u8)
     }
 }
 
-// Fallback at the sync limit, in either mode, or else at the command limit, or else at that of the window.
+// Fallback at the sync limit, in either mode, or else at the command limit, or else at that of the window; the first is the
+// ground.
 fn limit(a: Agent) -> Agent
     requires { ⌜ Shows (a .mode) (a .regs) ⌝ }
     ensures { λ r. ⌜ r ≡ limited a ⌝ }
@@ -142,11 +162,13 @@ fn limit(a: Agent) -> Agent
     let command = at_command_limit(a);
     let window = at_window_limit(a);
     let falls = sync | command | window;
+    let ground = tick_ground(sync, command);
+    let shown = ground_after(a.mode, ground, a.regs[GROUND]);
     let mode = mode_after(falls, a.mode);
     let idle = idle_after(falls, a.idle);
     let mark = mark_after(falls, a.mark);
     let mut next = a;
-    mark_fall(&mut next.regs, falls);
+    mark_fall(&mut next.regs, falls, shown);
     mask_outputs(&mut next.regs, mode);
     next.mode = mode;
     next.idle = idle;

@@ -12,6 +12,7 @@ use agent_marks::fallback::enter_fallback;
 use agent_replies::replies::does;
 use agent_state::answers::ACCEPTED;
 use agent_state::answers::OUTSIDE_RULES;
+use agent_state::grounds::BY_ORDER;
 use agent_state::registers::CNF_CYC;
 use agent_state::registers::CNF_REP;
 use agent_state::registers::put_bytes;
@@ -132,7 +133,7 @@ fn release_written(a: Agent, add: u8, xs: &[u8]) -> Agent
     ensures { λ r. ⌜ r ≡ written Release a add (now (xs .entry)) ⌝ }
 {
     if first(xs) == WITHHELD {
-        return enter_fallback(a);
+        return enter_fallback(BY_ORDER, a);
     }
     store_all(add, xs, a)
 }

@@ -11,9 +11,10 @@ use lib.Seq.{sets, set-comm, sets-eq}
 use Rattle.base.specs.Choice.{choose}
 use Rattle.base.proofs.Choosing.{by-test, choose-true, choose-false}
 use Rattle.rules.specs.Calls.{tick, tickCall, act}
-use Rattle.rules.specs.Fallback.{withheld, enterFallback}
+use Rattle.rules.specs.Fallback.{withheld, groundAfter, enterFallback}
+use Rattle.rules.specs.Grounds.{bySyncSilence, byCommandSilence, byWindow}
 use Rattle.rules.specs.Inputs.{withInputs}
-use Rattle.rules.specs.Registers.{outRep, statut, outputsAt, inputsAt, image}
+use Rattle.rules.specs.Registers.{outRep, statut, groundAt, outputsAt, inputsAt, image}
 use Rattle.rules.specs.Replies.{Outcome}
 use Rattle.rules.specs.Sound.{sound}
 use Rattle.rules.specs.State.{reg, tOf, withRegs}
@@ -47,19 +48,22 @@ held-at r size e =
 held-before : (xs r : List ℕ) (i : ℕ) → i + length xs ≤ inputsAt → sets r inputsAt inputs ≡ r → sets (sets r i xs) inputsAt inputs ≡ sets r i xs
 held-before xs r i h e = sets-before xs inputs r i inputsAt h ∙ ap (λ (m : List ℕ). sets m i xs) e
 
-held-fallen : (a : Agent) → Held a → Held (enterFallback a)
+held-fallen : (g : ℕ) (a : Agent) → Held a → Held (enterFallback g a)
 unfolding enterFallback
-held-fallen a e =
+held-fallen g a e =
     let r : List ℕ = sets (a .regs) statut (bitOr (reg a statut) 0x80 ∷ []) in
     let q : List ℕ = sets r outRep (withheld ∷ []) in
-    held-before (replicate image 0) q outputsAt (omega arith)
-    (held-before (withheld ∷ []) r outRep (omega arith) (held-before (bitOr (reg a statut) 0x80 ∷ []) (a .regs) statut (omega arith) e))
+    let p : List ℕ = sets q groundAt (groundAfter g a ∷ []) in
+    held-before (replicate image 0) p outputsAt (omega arith)
+    (held-before (groundAfter g a ∷ []) q groundAt (omega arith)
+    (held-before (withheld ∷ []) r outRep (omega arith) (held-before (bitOr (reg a statut) 0x80 ∷ []) (a .regs) statut (omega arith) e)))
 
 held-limited : (a : Agent) → Held a → Held (limited a)
 unfolding limited
 held-limited a e =
-    by-test Held (syncLimit a) (λ h. held-fallen a e)
-    (λ h. by-test Held (commandLimit a) (λ k. held-fallen a e) (λ k. by-test Held (windowLimit a) (λ w. held-fallen a e) (λ w. e)))
+    by-test Held (syncLimit a) (λ h. held-fallen bySyncSilence a e)
+    (λ h. by-test Held (commandLimit a) (λ k. held-fallen byCommandSilence a e)
+    (λ k. by-test Held (windowLimit a) (λ w. held-fallen byWindow a e) (λ w. e)))
 
 held-ticked : (a : Agent) → Held a → Held (ticked a)
 unfolding ticked cycleEnded counted

@@ -7,3 +7,4 @@ pub mod Table
 pub mod HeldInputs
 pub mod Journeyed
 pub mod Windowed
+pub mod Grounded

@@ -47,7 +47,7 @@ silence-19 = (
 )
 
 -- ---- P10
-abbrev timely : ℕ → ℕ → Agent → Agent
+abbrev pub timely : ℕ → ℕ → Agent → Agent
 timely zero c a = a
 timely (suc n) c a = timely n (suc c) (acted 1 0xFF (Sync concentrator (suc c)) [] (after (silent 10) a) .agent)
 
@@ -58,7 +58,7 @@ on-time (suc n) c h a =
     ∙ after-comes (sync-lays (suc c) (omega arith)) (onTime n (suc c)) (after (silent 10) a)
     ∙ on-time n (suc c) (omega arith) (acted 1 0xFF (Sync concentrator (suc c)) [] (after (silent 10) a) .agent)
 
-timely-then : (calls : List Call) → after (onTime 4 0x05 ++ calls) (afterPrelude 0x04 0x05) ≡ after calls (timely 4 0x05 (ready doorsLimit 0x05 0))
+pub timely-then : (calls : List Call) → after (onTime 4 0x05 ++ calls) (afterPrelude 0x04 0x05) ≡ after calls (timely 4 0x05 (ready doorsLimit 0x05 0))
 timely-then calls =
     after-append (onTime 4 0x05) calls (afterPrelude 0x04 0x05)
     ∙ ap (after calls) (on-time 4 0x05 (omega arith) (afterPrelude 0x04 0x05) ∙ ap (timely 4 0x05) start-05)

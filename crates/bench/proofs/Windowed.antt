@@ -26,7 +26,7 @@ use Rattle.bench.specs.Windows.{started, answerAfter, AllEdges, Runs, Ha
 use Rattle.bench.proofs.Acting.{acted, acts-at, assignment-lays, sync-lays, write-lays, Coming, agentAfter, after-calls, after-comes, after-append}
 use Rattle.bench.proofs.HeldInputs.{Held, held-at, ticks, after-silent}
 
-abbrev coming : ℕ → List Coming
+abbrev pub coming : ℕ → List Coming
 coming t =
     record { port = 1; addr = 0xFF; f = SidAssignment concentrator 0x00000001 0x01 ownSid; xs = []; on-port = refl; lays = assignment-lays }
     ∷ record { port = 1; addr = 0xFF; f = Sync concentrator 0x10; xs = []; on-port = refl; lays = sync-lays 0x10 (omega arith) }
@@ -37,15 +37,15 @@ coming t =
     ∷ record { port = 1; addr = ownTid; f = SafeWrite ownSid concentrator 0x11 (seqOf 0x11 0) 1 outputsAt; xs = 0xAB ∷ []; on-port = refl; lays = write-lays 0x11 0 outputsAt (0xAB ∷ []) (omega arith) (omega arith) (omega arith) }
     ∷ []
 
-abbrev running : ℕ → Agent
+abbrev pub running : ℕ → Agent
 running t = agentAfter (coming t) module1
 
-started-is : (t : ℕ) → started t ≡ running t
+pub started-is : (t : ℕ) → started t ≡ running t
 started-is t = after-calls (coming t) module1
 
 -- the sync 12h after so many ticks, once the inputs are known to be held
 module _ (t : ℕ) (held : Held (running t)) where
-  quiet : (n : ℕ) → after (silent n) (started t) ≡ ticks n (running t)
+  pub quiet : (n : ℕ) → after (silent n) (started t) ≡ ticks n (running t)
   quiet n = ap (after (silent n)) (started-is t) ∙ after-silent n (running t) held
 
   answered : (n : ℕ) → answerAfter t n ≡ acted 1 0xFF (Sync concentrator 0x12) [] (ticks n (running t)) .answer
@@ -64,12 +64,12 @@ edges =
     ((a7 5 ∙ refl, a7 6 ∙ refl, a7 8 ∙ refl, a7 9 ∙ refl), (a8 6 ∙ refl, a8 7 ∙ refl, a8 9 ∙ refl, a8 10 ∙ refl), (a15 13 ∙ refl, a15 14 ∙ refl, a15 16 ∙ refl, a15 17 ∙ refl), (a16 13 ∙ refl, a16 14 ∙ refl, a16 18 ∙ refl, a16 19 ∙ refl), (a255 223 ∙ refl, a255 224 ∙ refl, a255 286 ∙ refl, a255 287 ∙ refl), a1 0 ∙ refl, a1 1 ∙ refl)
 
 -- ---- the three lists
-held : Held (running 16)
+pub held : Held (running 16)
 unfolding onFirstSid onLaterSid onSid enterFallback enterRun powerRegs powerUp lowBytes lowNumber syncReply acknowledges sendFrame sent distance onDistance onRequest settingsSound sourcesSound countersSound outputsZero runSound fallbackSound sound fits holds distinct below24 isRecorded recorded sidOf cycleFits heardSync synced onSync spanAt spanOf onWrite
 held = held-at (running 16 .regs) refl refl
 
 -- the sync 12h after so many ticks, and so many more
-abbrev missedAt : ℕ → Agent
+abbrev pub missedAt : ℕ → Agent
 missedAt n = acted 1 0xFF (Sync concentrator 0x12) [] (ticks n (running 16)) .agent
 
 missed : (n : ℕ) (rest : List Call) → after ((silent n ++ (syncs 0x12 ∷ [])) ++ rest) (started 16) ≡ after rest (missedAt n)
@@ -88,7 +88,7 @@ held-late : Held (missedAt 19)
 unfolding onFirstSid onLaterSid onSid enterFallback enterRun powerRegs powerUp lowBytes lowNumber syncReply acknowledges sendFrame sent distance onDistance onRequest settingsSound sourcesSound countersSound outputsZero runSound fallbackSound sound fits holds distinct below24 isRecorded recorded sidOf cycleFits heardSync synced onSync spanAt spanOf onWrite inWindow width windowMarked ticked counted limited cycleEnded
 held-late = held-at (missedAt 19 .regs) refl refl
 
-after-early : (n : ℕ) → after (early ++ silent n) (started 16) ≡ ticks n (missedAt 10)
+pub after-early : (n : ℕ) → after (early ++ silent n) (started 16) ≡ ticks n (missedAt 10)
 after-early n = missed 10 (silent n) ∙ after-silent n (missedAt 10) held-early
 
 after-late : (n : ℕ) → after (late ++ silent n) (started 16) ≡ ticks n (missedAt 19)

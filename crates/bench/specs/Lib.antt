@@ -2,3 +2,4 @@ pub mod BusCalls
 pub mod Journey
 pub mod Windows
 pub mod Cases
+pub mod Grounds

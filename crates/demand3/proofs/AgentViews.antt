@@ -1,6 +1,6 @@
 -- How the changes that the rules make to an agent show in its view. Assumes nothing.
 use mathlib.Core.Bool.{true, false, not}
-use mathlib.Core.Path.{_≡_, refl, sym, _∙_, ap}
+use mathlib.Core.Path.{_≡_, refl, sym, _∙_, ap, ap₂}
 use mathlib.Core.List.{List, [], _∷_}
 use Prim.Native.Nat.{ℕ, _+_, _-_, _^_, _≤_, _<_}
 use native.Mathlib.Omega.{arith}
@@ -11,15 +11,15 @@ use lib.ListN.{length, getD, replicate, length-replicate, getD-replicate}
 use lib.Seq.{sets, length-sets}
 use Rattle.base.proofs.Choosing.{and-left, and-right}
 use Rattle.base.proofs.Stored.{stored-in}
-use Rattle.rules.specs.Fallback.{released, withheld, enterFallback, enterRun}
+use Rattle.rules.specs.Fallback.{released, withheld, groundAfter, enterFallback, enterRun}
 use Rattle.rules.specs.Marks.{counter, windowMarked}
-use Rattle.rules.specs.Registers.{sidAt, outRep, tcyc, statut, cnfRep, cnfCyc, outputsAt, image, lowBytes}
+use Rattle.rules.specs.Registers.{sidAt, outRep, tcyc, statut, cnfRep, cnfCyc, groundAt, outputsAt, image, lowBytes}
 use Rattle.rules.specs.Sources.{recorded}
 use Rattle.rules.specs.State.{reg, tOf, nOf, mOf, withIdle, store, storeAll}
 use Rattle.rules.specs.declared.Agent.{Agent}
 use Rattle.rules.proofs.MarkSteps.{Marks, none, counts}
 use Rattle.rules.proofs.LowBytes.{low-stored, low-same}
-use Rattle.demand3.proofs.Effects.{commanded, fallen, misses, runs, limits, releases, outputs, named}
+use Rattle.demand3.proofs.Effects.{commanded, shownBy, fallen, misses, runs, limits, releases, outputs, named}
 use Rattle.demand3.proofs.RegisterViews.{Apart, apart-same, apart-status, apart-middle}
 use Rattle.demand3.proofs.StoredPlaces.{stored-outside, stored-choice}
 use Rattle.demand3.proofs.Views.{RegisterView, View, registersOf, viewOf, SameRegisters, Agree}
@@ -32,7 +32,7 @@ by-registers : {v w : View} → v .mode ≡ w .mode → v .assigned ≡ w .assig
 by-registers m a k y x r = record { mode = m; assigned = a; mark = k; registers = r; cycle = y; clocks = x }
 
 same-refl : (r : RegisterView) → SameRegisters r r
-same-refl r = record { rep = refl; t = refl; n = refl; m = refl; out = λ i h. refl; sid = refl }
+same-refl r = record { rep = refl; t = refl; n = refl; m = refl; ground = refl; out = λ i h. refl; sid = refl }
 
 pub agree-refl : (v : View) → Agree v v
 agree-refl v = by-registers refl refl refl refl refl (same-refl (v .registers))
@@ -47,6 +47,7 @@ agree-trans x y = record {
     t = x .registers .t ∙ y .registers .t;
     n = x .registers .n ∙ y .registers .n;
     m = x .registers .m ∙ y .registers .m;
+    ground = x .registers .ground ∙ y .registers .ground;
     out = λ i h. x .registers .out i h ∙ y .registers .out i h;
     sid = x .registers .sid ∙ y .registers .sid;
   };
@@ -76,41 +77,53 @@ marks-size (Marks.sets {b = b} m e s) = length-sets (b .regs) statut (bitOr (reg
 marks-size (counts {b = b} i x e s) = length-sets (b .regs) i (counter x ∷ []) ∙ marks-size s
 
 -- ---- fallback and RUN
-fallback-view : (a : Agent) → length (a .regs) ≡ 256 → Agree (viewOf (enterFallback a)) (fallen (viewOf a))
+fallback-view : (g : ℕ) (a : Agent) → length (a .regs) ≡ 256 → Agree (viewOf (enterFallback g a)) (fallen g (viewOf a))
 unfolding enterFallback
-fallback-view a size =
+fallback-view g a size =
     let r : List ℕ = a .regs in
     let zeros : List ℕ = replicate image 0 in
     let s : List ℕ = sets r statut (bitOr (reg a statut) 0x80 ∷ []) in
-    let u : List ℕ = sets s outRep (withheld ∷ []) in
+    let w : List ℕ = sets s outRep (withheld ∷ []) in
+    let u : List ℕ = sets w groundAt (groundAfter g a ∷ []) in
     let n : length zeros ≡ image = length-replicate {A = ℕ} image 0 in
     let size-s : length s ≡ 256 = length-sets r statut (bitOr (reg a statut) 0x80 ∷ []) ∙ size in
-    let size-u : length u ≡ 256 = length-sets s outRep (withheld ∷ []) ∙ size-s in
+    let size-w : length w ≡ 256 = length-sets s outRep (withheld ∷ []) ∙ size-s in
+    let size-u : length u ≡ 256 = length-sets w groundAt (groundAfter g a ∷ []) ∙ size-w in
     let same : SameRegisters (registersOf s) (registersOf r) = apart-same r statut (bitOr (reg a statut) 0x80 ∷ []) apart-status in
     let before : (j : ℕ) → j < outputsAt → getD (sets u outputsAt zeros) j 0 ≡ getD u j 0 = λ j h. stored-outside u outputsAt zeros j (λ p q. omega arith) in
-    let other : (j : ℕ) → (j ≡ outRep → ⊥) → getD u j 0 ≡ getD s j 0 = λ j h. stored-outside s outRep (withheld ∷ []) j (λ p q. h (omega arith)) in
+    let below : (j : ℕ) → j < groundAt → getD u j 0 ≡ getD w j 0 = λ j h. stored-outside w groundAt (groundAfter g a ∷ []) j (λ p q. omega arith) in
+    let other : (j : ℕ) → j < groundAt → (j ≡ outRep → ⊥) → getD u j 0 ≡ getD s j 0 = λ j k h. below j k ∙ stored-outside s outRep (withheld ∷ []) j (λ p q. h (omega arith)) in
     by-registers refl refl refl refl refl (record {
-      rep = before outRep (omega arith) ∙ stored-in s outRep (withheld ∷ []) outRep (omega arith) (omega arith) (omega arith);
-      t = before tcyc (omega arith) ∙ other tcyc (λ e. omega arith) ∙ same .t;
-      n = before cnfCyc (omega arith) ∙ other cnfCyc (λ e. omega arith) ∙ same .n;
-      m = before cnfRep (omega arith) ∙ other cnfRep (λ e. omega arith) ∙ same .m;
+      rep = before outRep (omega arith) ∙ below outRep (omega arith) ∙ stored-in s outRep (withheld ∷ []) outRep (omega arith) (omega arith) (omega arith);
+      t = before tcyc (omega arith) ∙ other tcyc (omega arith) (λ e. omega arith) ∙ same .t;
+      n = before cnfCyc (omega arith) ∙ other cnfCyc (omega arith) (λ e. omega arith) ∙ same .n;
+      m = before cnfRep (omega arith) ∙ other cnfRep (omega arith) (λ e. omega arith) ∙ same .m;
+      ground = before groundAt (omega arith) ∙ stored-in w groundAt (groundAfter g a ∷ []) groundAt (omega arith) (omega arith) (omega arith);
       out = λ i h. stored-in u outputsAt zeros (outputsAt + i) (omega arith) (omega arith) (omega arith)
           ∙ getD-replicate {A = ℕ} image (outputsAt + i - outputsAt) 0 0 (omega arith);
-      sid = low-same s (sets u outputsAt zeros) sidAt 3 (λ j p q. before j (omega arith) ∙ other j (λ e. omega arith)) ∙ same .sid;
+      sid = low-same s (sets u outputsAt zeros) sidAt 3 (λ j p q. before j (omega arith) ∙ other j (omega arith) (λ e. omega arith)) ∙ same .sid;
     })
 
-fallen-agree : {v w : View} → Agree v w → Agree (fallen v) (fallen w)
-fallen-agree e = record {
+fallen-agree : (g : ℕ) {v w : View} → Agree v w → Agree (fallen g v) (fallen g w)
+fallen-agree g e = record {
   mode = refl;
   assigned = e .assigned;
   mark = refl;
-  registers = record { rep = refl; t = e .registers .t; n = e .registers .n; m = e .registers .m; out = λ i h. refl; sid = e .registers .sid };
+  registers = record {
+    rep = refl;
+    t = e .registers .t;
+    n = e .registers .n;
+    m = e .registers .m;
+    ground = ap₂ (λ (x y : ℕ). shownBy x g y) (e .mode) (e .registers .ground);
+    out = λ i h. refl;
+    sid = e .registers .sid;
+  };
   cycle = e .cycle;
   clocks = ap commanded (e .clocks);
 }
 
-pub fallen-view : (a : Agent) (v : View) → length (a .regs) ≡ 256 → Agree (viewOf a) v → Agree (viewOf (enterFallback a)) (fallen v)
-fallen-view a v size e = agree-trans (fallback-view a size) (fallen-agree e)
+pub fallen-view : (g : ℕ) (a : Agent) (v : View) → length (a .regs) ≡ 256 → Agree (viewOf a) v → Agree (viewOf (enterFallback g a)) (fallen g v)
+fallen-view g a v size e = agree-trans (fallback-view g a size) (fallen-agree g e)
 
 -- a sync outside its window
 pub missed-view : (a : Agent) → Agree (viewOf (windowMarked a)) (misses (viewOf a))
@@ -132,11 +145,12 @@ release-view a i xs size at one e =
       t = other tcyc (λ e. omega arith);
       n = other cnfCyc (λ e. omega arith);
       m = other cnfRep (λ e. omega arith);
+      ground = other groundAt (λ e. omega arith);
       out = λ j h. other (outputsAt + j) (λ e. omega arith);
       sid = low-same r (sets r i xs) sidAt 3 (λ j p q. other j (λ e. omega arith));
     })
 
-pub limits-view : (a : Agent) (i : ℕ) (xs : List ℕ) → 0x18 ≤ i → i + length xs ≤ 0x80
+pub limits-view : (a : Agent) (i : ℕ) (xs : List ℕ) → 0x18 ≤ i → i + length xs ≤ 0x26
     → Agree (viewOf (storeAll i xs a)) (limits (tOf (storeAll i xs a)) (nOf (storeAll i xs a)) (mOf (storeAll i xs a)) (viewOf a))
 limits-view a i xs low high =
     let r : List ℕ = a .regs in
@@ -145,6 +159,7 @@ limits-view a i xs low high =
       t = refl;
       n = refl;
       m = refl;
+      ground = stored-outside r i xs groundAt (λ p q. omega arith);
       out = λ j h. stored-outside r i xs (outputsAt + j) (λ p q. omega arith);
       sid = low-same r (sets r i xs) sidAt 3 (λ j p q. stored-outside r i xs j (λ u v. omega arith));
     })
@@ -158,6 +173,7 @@ outputs-view a i xs size low high =
       t = stored-outside r i xs tcyc (λ p q. omega arith);
       n = stored-outside r i xs cnfCyc (λ p q. omega arith);
       m = stored-outside r i xs cnfRep (λ p q. omega arith);
+      ground = stored-outside r i xs groundAt (λ p q. omega arith);
       out = λ j h. stored-choice r i xs (outputsAt + j) (omega arith);
       sid = low-same r (sets r i xs) sidAt 3 (λ j p q. stored-outside r i xs j (λ u v. omega arith));
     })
@@ -178,6 +194,7 @@ named-view a src sid size small =
       t = other tcyc (omega arith);
       n = other cnfCyc (omega arith);
       m = other cnfRep (omega arith);
+      ground = other groundAt (omega arith);
       out = λ i h. other (outputsAt + i) (omega arith);
       sid = low-stored r sidAt 3 sid small (omega arith);
     })

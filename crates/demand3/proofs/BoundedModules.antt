@@ -17,7 +17,7 @@ use Rattle.demand3.specs.Events.{Event, aTick, aSync, aMissedSync, aRequ
 use Rattle.demand3.specs.History.{History, powerOn, _▸_, Entry, Seen}
 use Rattle.demand3.specs.Numbers.{inRun, inFallback, unsound}
 use Rattle.demand3.specs.Words.{silenceAfter, silence, EntersRun, TickAtSyncLimit, Released, ordered, still}
-use Rattle.demand3.proofs.Device.{Device, moveEntry, HistoryOf, of-each}
+use Rattle.demand3.proofs.Device.{Device, moveEntry, HistoryOf, after-all, of-each}
 
 -- what matters of a module here: what is seen, OUT_REP, and s
 pub record Watchdog : Type 0 where
@@ -93,13 +93,13 @@ record Entered (h : History) (e : Entry) : Type 0 where
 pub not-both : (m : ℕ) → m ≡ inRun → m ≡ inFallback → ⊥
 not-both m p q = omega arith
 
-counts-on : (s x : ℕ) → s ≡ min x silenceEnd → moreSilence s ≡ min (x + 1) silenceEnd
+pub counts-on : (s x : ℕ) → s ≡ min x silenceEnd → moreSilence s ≡ min (x + 1) silenceEnd
 counts-on s x e =
     by-test (λ (y : ℕ). y ≡ min (x + 1) silenceEnd) (ltb s silenceEnd)
     (λ p. omega (arith, ltb-true s silenceEnd p)) (λ p. omega (arith, ltb-false s silenceEnd p))
 
 -- t and n are bytes, so s passes n × t before it stops
-not-at-limit : (s x n t : ℕ) → s ≡ min x silenceEnd → n ≤ 255 → t ≤ 255 → s < n * t → n * t ≤ x → ⊥
+pub not-at-limit : (s x n t : ℕ) → s ≡ min x silenceEnd → n ≤ 255 → t ≤ 255 → s < n * t → n * t ≤ x → ⊥
 not-at-limit s x n t e p q under at =
     let small : n * t ≤ 255 * 255 = mul-le-mul p q in
     omega arith
@@ -188,6 +188,10 @@ module _ (h : History) (v w : Watchdog) (l : Link h v) (call : Call) (n : ℕ) (
 
 at-rest : (v : Watchdog) → StartsBounded v → Link powerOn v
 at-rest v r = record { modes = λ x. r .mode; silent = r .s; pending = λ p q. absurd (omega (arith, r .rep, q)) }
+
+-- s counts the silence, as far as it goes
+pub counts-silence : {h : History} {v : Watchdog} → HistoryOf boundedModule h v → v .s ≡ min (silence h) silenceEnd
+counts-silence r = after-all boundedModule Link at-rest (λ h v w call n ev b l. linked h v w l call n ev (b .move)) r .silent
 
 pub bounded : {h : History} {v : Watchdog} → HistoryOf boundedModule h v → Bounded h
 bounded r =

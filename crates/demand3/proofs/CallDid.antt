@@ -32,7 +32,7 @@ use Rattle.demand3.specs.Events.{eventOf}
 use Rattle.demand3.specs.Numbers.{isAccepted, accepted, outsideRules, outsideWindow}
 use Rattle.demand3.proofs.AgentViews.{agree-refl, apart-view, named-view, recorded-view}
 use Rattle.demand3.proofs.Effects.{Told, told, takes, named, asked, takenOnly, namedFirst, acknowledged, Step}
-use Rattle.demand3.proofs.FrameEvents.{Unheeded, unheeded, Carries, carries, sync-brings-none}
+use Rattle.demand3.proofs.FrameEvents.{Unheeded, unheeded, Carries, carries, wrong-sync, sync-brings-none}
 use Rattle.demand3.proofs.RegisterViews.{apart-inputs, apart-tid}
 use Rattle.demand3.proofs.RequestDid.{is-due, at-due, is-laid}
 use Rattle.demand3.proofs.Steps.{Leaves, Shown, not-heeded, after-reply, keeps, refused}
@@ -72,7 +72,7 @@ module _ {a : Agent} (good : Good a) where
 
     kind-did : {f : Frame} {xs : List ℕ} {d : Deed} → Unheeded call → Carries call f xs → KindCase a f xs d → Shown a call d
     kind-did {f = f} u c (refuses n h) = refused u (isSync f && running a) n h
-    kind-did u c (fell e) = fell-did good call u (sync-brings-none c)
+    kind-did u c (fell e) = fell-did good call u (sync-brings-none c) (wrong-sync c)
     kind-did u c (missed e) = missed-did good call (c .amounts outsideWindow) (sync-brings-none c)
     kind-did u c (outside {add = add} {xs = xs} p) =
         at-due p (Leaves a call outsideRules)

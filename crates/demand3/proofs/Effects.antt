@@ -1,6 +1,6 @@
 -- What a call can do to the parts of the agent that demand 3 is about: one case for each kind of effect. The rules are
 -- taken apart once to show that every call is one of these; what builds on it looks at nothing else. Assumes nothing.
-use mathlib.Core.Bool.{Bool, true, false}
+use mathlib.Core.Bool.{true, false}
 use mathlib.Core.List.{List}
 use mathlib.Core.Path.{_≡_}
 use Prim.Native.Nat.{ℕ, _+_, _-_, _*_, _%_, _≤_, _<_}
@@ -12,29 +12,31 @@ use Rattle.frame_kinds.specs.Kinds.{appOf}
 use Rattle.frame_kinds.specs.declared.kinds.Frame.the-variants.{SafeWrite}
 use Rattle.rules.specs.Calls.{Call, frame}
 use Rattle.rules.specs.Fallback.{released, withheld}
+use Rattle.rules.specs.Grounds.{bySyncSilence, byCommandSilence, byWrongCycle, byOrder, byWindow}
 use Rattle.rules.specs.Registers.{outputsAt}
 use Rattle.rules.specs.Replies.{Outcome}
 use Rattle.rules.specs.State.{inRun, inFallback, isHeard, unheard, isMarked, unmarked, nobody}
 use Rattle.rules.specs.Tick.{silenceEnd}
 use Rattle.rules.specs.declared.Agent.{Agent}
-use Rattle.demand3.specs.Events.{Event, aTick, aSync, aMissedSync, aRequest, aRefusedWrite, anAssignment, nothing, eventOf, ordersRelease, writesOutputs, Request}
+use Rattle.demand3.specs.Events.{Event, aTick, aSync, aMissedSync, aRequest, aRefusedWrite, anAssignment, nothing, eventOf, ordersRelease, ordersFallback, writesOutputs, Request}
+use Rattle.demand3.specs.Grounds.{WrongSync}
 use Rattle.demand3.specs.Numbers.{window, isAccepted, firstSeq}
 use Rattle.demand3.specs.Sharper.{Brings}
 use Rattle.demand3.proofs.Views.{RegisterView, Cycle, Clocks, View, viewOf, Agree}
 
 -- ---- the effects, part by part
 
-abbrev cold : RegisterView → RegisterView
-cold r = record { rep = withheld; t = r .t; n = r .n; m = r .m; out = λ i. 0; sid = r .sid }
+abbrev cold : ℕ → RegisterView → RegisterView
+cold ground r = record { rep = withheld; t = r .t; n = r .n; m = r .m; ground = ground; out = λ i. 0; sid = r .sid }
 
 abbrev withRep : ℕ → RegisterView → RegisterView
-withRep rep r = record { rep = rep; t = r .t; n = r .n; m = r .m; out = r .out; sid = r .sid }
+withRep rep r = record { rep = rep; t = r .t; n = r .n; m = r .m; ground = r .ground; out = r .out; sid = r .sid }
 
 abbrev withLimits : ℕ → ℕ → ℕ → RegisterView → RegisterView
-withLimits t n m r = record { rep = r .rep; t = t; n = n; m = m; out = r .out; sid = r .sid }
+withLimits t n m r = record { rep = r .rep; t = t; n = n; m = m; ground = r .ground; out = r .out; sid = r .sid }
 
 abbrev withSid : ℕ → RegisterView → RegisterView
-withSid sid r = record { rep = r .rep; t = r .t; n = r .n; m = r .m; out = r .out; sid = sid }
+withSid sid r = record { rep = r .rep; t = r .t; n = r .n; m = r .m; ground = r .ground; out = r .out; sid = sid }
 
 -- the bytes xs from register add on
 abbrev stored : ℕ → List ℕ → RegisterView → RegisterView
@@ -43,6 +45,7 @@ stored add xs r = record {
   t = r .t;
   n = r .n;
   m = r .m;
+  ground = r .ground;
   out = λ i. choose (leb add (outputsAt + i)) (choose (ltb (outputsAt + i) (add + length xs)) (getD xs (outputsAt + i - add) 0) (r .out i)) (r .out i);
   sid = r .sid;
 }
@@ -80,8 +83,20 @@ abbrev withMark : ℕ → View → View
 withMark x v = record { mode = v .mode; assigned = v .assigned; mark = x; registers = v .registers; cycle = v .cycle; clocks = v .clocks }
 
 -- ---- and of the view
-abbrev pub fallen : View → View
-fallen v = record { mode = inFallback; assigned = v .assigned; mark = unmarked; registers = cold (v .registers); cycle = v .cycle; clocks = commanded (v .clocks) }
+
+-- 26h shows the ground if the module was in RUN, else what it showed before
+abbrev pub shownBy : ℕ → ℕ → ℕ → ℕ
+shownBy mode ground shown = choose (eqb mode inRun) ground shown
+
+abbrev pub fallen : ℕ → View → View
+fallen g v = record {
+  mode = inFallback;
+  assigned = v .assigned;
+  mark = unmarked;
+  registers = cold (shownBy (v .mode) g (v .registers .ground)) (v .registers);
+  cycle = v .cycle;
+  clocks = commanded (v .clocks);
+}
 
 abbrev pub countedOn : View → View
 countedOn v = withClocks (clocksOn (v .mode) (v .clocks)) v
@@ -129,6 +144,12 @@ pub record BelowLimits (v : View) : Type 0 where
   pub sync : v .clocks .s < v .registers .n * v .registers .t
   pub command : v .mode ≡ inRun → v .clocks .q < v .registers .m * v .registers .t
 
+-- the limit that a tick reaches first, and so its ground
+pub data Reaches (v : View) : ℕ → Type 0 where
+  atSync : v .registers .n * v .registers .t ≤ v .clocks .s → Reaches v bySyncSilence
+  atCommand : v .mode ≡ inRun → v .clocks .s < v .registers .n * v .registers .t → v .registers .m * v .registers .t ≤ v .clocks .q → Reaches v byCommandSilence
+  atWindow : v .mode ≡ inRun → BelowLimits v → v .mark ≡ isMarked → v .registers .t ≤ v .clocks .e → Reaches v byWindow
+
 -- the cycle ends at this tick, and no mark is set in RUN
 pub record Ends (v : View) : Type 0 where
   pub over : v .registers .t ≤ v .clocks .e
@@ -154,25 +175,25 @@ pub record LaidWrite (call : Call) (r : Request) (add : ℕ) (xs : List ℕ) : T
 abbrev pub BringsNone : Call → Type 0
 BringsNone call = (src seq : ℕ) → Brings call src seq → ⊥
 
--- a call on a module of the view v, whether it is accepted, and what it means: it leaves the view so
-pub data Did (v : View) (call : Call) (ok : Bool) (means : Event) : View → Type 0 where
-  fellAtTick : means ≡ aTick → Did v call ok means (fallen (countedOn v))
-  fellAtTickAndEnd : means ≡ aTick → Did v call ok means (nextCycle (fallen (countedOn v)))
-  tickedOn : means ≡ aTick → BelowLimits (countedOn v) → v .clocks .e + 1 < v .registers .t → Did v call ok means (countedOn v)
-  tickedOnAndEnd : means ≡ aTick → BelowLimits (countedOn v) → Ends (countedOn v) → Did v call ok means (nextCycle (countedOn v))
-  kept : means ≡ nothing → Did v call ok means v
-  lost : means ≡ nothing → BringsNone call → Did v call ok means (fallen v)
-  missed : means ≡ aMissedSync → BringsNone call → Did v call ok means (misses v)
-  heardOnly : (src cyc : ℕ) → means ≡ aSync src cyc → v .assigned ≡ true → (v .mode ≡ inRun → InTime v) → Did v call ok means (hears src cyc v)
-  enteredRun : (src cyc : ℕ) → means ≡ aSync src cyc → v .assigned ≡ true → v .mode ≡ inFallback → v .registers .rep ≡ released → Did v call ok means (runs (hears src cyc v))
-  takenOnly : (r : Request) → means ≡ aRefusedWrite r → Due v r → Did v call ok means (takes v)
-  asked : (r : Request) → means ≡ aRequest r → Due v r → writesOutputs (r .ask) ≡ false → Did v call ok means (takes v)
-  configured : (r : Request) (t c m : ℕ) → means ≡ aRequest r → Due v r → writesOutputs (r .ask) ≡ false → v .mode ≡ inFallback → Did v call ok means (limits t c m (takes v))
-  releasedBy : (r : Request) → means ≡ aRequest r → Due v r → writesOutputs (r .ask) ≡ false → ordersRelease (r .ask) ≡ true → Did v call ok means (releases (takes v))
-  withdrawn : (r : Request) → means ≡ aRequest r → Due v r → writesOutputs (r .ask) ≡ false → Did v call ok means (fallen (takes v))
-  output : (r : Request) (add : ℕ) (xs : List ℕ) → ok ≡ true → means ≡ aRequest r → Due v r → writesOutputs (r .ask) ≡ true → v .mode ≡ inRun → LaidWrite call r add xs → Did v call ok means (outputs add xs (takes v))
-  namedFirst : (sid : ℕ) → means ≡ anAssignment sid → v .assigned ≡ false → Did v call ok means (named sid v)
-  acknowledged : (sid : ℕ) → means ≡ anAssignment sid → v .assigned ≡ true → Did v call ok means v
+-- a call on a module of the view v, its answer, and what the two mean: it leaves the view so
+pub data Did (v : View) (call : Call) (n : ℕ) (means : Event) : View → Type 0 where
+  fellAtTick : (g : ℕ) → means ≡ aTick → Reaches (countedOn v) g → Did v call n means (fallen g (countedOn v))
+  fellAtTickAndEnd : (g : ℕ) → means ≡ aTick → Reaches (countedOn v) g → Did v call n means (nextCycle (fallen g (countedOn v)))
+  tickedOn : means ≡ aTick → BelowLimits (countedOn v) → v .clocks .e + 1 < v .registers .t → Did v call n means (countedOn v)
+  tickedOnAndEnd : means ≡ aTick → BelowLimits (countedOn v) → Ends (countedOn v) → Did v call n means (nextCycle (countedOn v))
+  kept : means ≡ nothing → Did v call n means v
+  lost : means ≡ nothing → BringsNone call → WrongSync call n → Did v call n means (fallen byWrongCycle v)
+  missed : means ≡ aMissedSync → BringsNone call → Did v call n means (misses v)
+  heardOnly : (src cyc : ℕ) → means ≡ aSync src cyc → v .assigned ≡ true → (v .mode ≡ inRun → InTime v) → Did v call n means (hears src cyc v)
+  enteredRun : (src cyc : ℕ) → means ≡ aSync src cyc → v .assigned ≡ true → v .mode ≡ inFallback → v .registers .rep ≡ released → Did v call n means (runs (hears src cyc v))
+  takenOnly : (r : Request) → means ≡ aRefusedWrite r → Due v r → Did v call n means (takes v)
+  asked : (r : Request) → means ≡ aRequest r → Due v r → writesOutputs (r .ask) ≡ false → Did v call n means (takes v)
+  configured : (r : Request) (t c m : ℕ) → means ≡ aRequest r → Due v r → writesOutputs (r .ask) ≡ false → v .mode ≡ inFallback → Did v call n means (limits t c m (takes v))
+  releasedBy : (r : Request) → means ≡ aRequest r → Due v r → writesOutputs (r .ask) ≡ false → ordersRelease (r .ask) ≡ true → Did v call n means (releases (takes v))
+  withdrawn : (r : Request) → means ≡ aRequest r → Due v r → writesOutputs (r .ask) ≡ false → ordersFallback (r .ask) ≡ true → Did v call n means (fallen byOrder (takes v))
+  output : (r : Request) (add : ℕ) (xs : List ℕ) → isAccepted n ≡ true → means ≡ aRequest r → Due v r → writesOutputs (r .ask) ≡ true → v .mode ≡ inRun → LaidWrite call r add xs → Did v call n means (outputs add xs (takes v))
+  namedFirst : (sid : ℕ) → means ≡ anAssignment sid → v .assigned ≡ false → Did v call n means (named sid v)
+  acknowledged : (sid : ℕ) → means ≡ anAssignment sid → v .assigned ≡ true → Did v call n means v
 
 -- a call, and what it means by its answer
 pub record Told : Type 0 where
@@ -186,5 +207,5 @@ told call = record { call = call; means = eventOf call }
 -- a step of the rules: one of these, shown by the agent it leaves
 pub record Step (a : Agent) (call : Told) (o : Outcome) : Type 0 where
   pub view : View
-  pub did : Did (viewOf a) (call .call) (isAccepted (o .answer)) (call .means (o .answer)) view
+  pub did : Did (viewOf a) (call .call) (o .answer) (call .means (o .answer)) view
   pub shows : Agree (viewOf (o .agent)) view

@@ -1,6 +1,5 @@
 -- A call that brings a safe request and is not accepted as that request changes neither an output nor the mode: of every
 -- effect. Assumes nothing.
-use mathlib.Core.Bool.{Bool}
 use mathlib.Core.Path.{_≡_, subst}
 use Prim.Native.Nat.{ℕ}
 use Rattle.rules.specs.Calls.{Call}
@@ -31,13 +30,13 @@ module _ (v u : View) (call : Call) (n : ℕ) (means : Event) (src seq : ℕ) (b
   accepted-so r e = let x = subst (MeansAsked src seq) e m in not-so r (x .0) (x .1) e
 
   -- the view as it was, but for k
-  pub unchanged-by : {w : View} {ok : Bool} → Did v call ok means w → Agree u w → Unchanged (viewEntry v call n means u)
-  unchanged-by (fellAtTick e) a = absurd (subst (MeansAsked src seq) e m)
-  unchanged-by (fellAtTickAndEnd e) a = absurd (subst (MeansAsked src seq) e m)
+  pub unchanged-by : {w : View} → Did v call n means w → Agree u w → Unchanged (viewEntry v call n means u)
+  unchanged-by (fellAtTick g e at) a = absurd (subst (MeansAsked src seq) e m)
+  unchanged-by (fellAtTickAndEnd g e at) a = absurd (subst (MeansAsked src seq) e m)
   unchanged-by (tickedOn e below on) a = absurd (subst (MeansAsked src seq) e m)
   unchanged-by (tickedOnAndEnd e below ends) a = absurd (subst (MeansAsked src seq) e m)
   unchanged-by (kept e) a = record { outputs = a .registers .out; mode = a .mode }
-  unchanged-by (lost e none) a = absurd (none src seq b)
+  unchanged-by (lost e none wrong) a = absurd (none src seq b)
   unchanged-by (missed e none) a = absurd (none src seq b)
   unchanged-by (heardOnly s c e known timely) a = absurd (subst (MeansAsked src seq) e m)
   unchanged-by (enteredRun s c e known p q) a = absurd (subst (MeansAsked src seq) e m)
@@ -45,7 +44,7 @@ module _ (v u : View) (call : Call) (n : ℕ) (means : Event) (src seq : ℕ) (b
   unchanged-by (asked r e due w) a = absurd (accepted-so r e)
   unchanged-by (configured r t c l e due w p) a = absurd (accepted-so r e)
   unchanged-by (releasedBy r e due w o) a = absurd (accepted-so r e)
-  unchanged-by (withdrawn r e due w) a = absurd (accepted-so r e)
+  unchanged-by (withdrawn r e due w o) a = absurd (accepted-so r e)
   unchanged-by (output r add xs ok e due w run laid) a = absurd (accepted-so r e)
   unchanged-by (namedFirst sid e no-one) a = absurd (subst (MeansAsked src seq) e m)
   unchanged-by (acknowledged sid e named-is) a = absurd (subst (MeansAsked src seq) e m)

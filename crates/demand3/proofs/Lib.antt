@@ -30,11 +30,14 @@ pub mod TimedModules
 pub mod SafeIsTimed
 pub mod SafeModules
 pub mod Deposed
+pub mod Grounds
 pub mod Proved
 pub mod Refuses
 pub mod RefusesWrites
 pub mod RefusesData
 pub mod RefusesTimes
+pub mod RefusesGrounds
 pub mod TickCalls
 pub mod ReachedLaws
 pub mod Meant
+pub mod OneGround

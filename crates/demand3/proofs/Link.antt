@@ -21,7 +21,7 @@ use Rattle.demand3.proofs.Views.{View, Facts}
 
 -- what may be seen of a view, and a call as the history has it
 abbrev pub viewSeen : View → Seen
-viewSeen v = record { mode = v .mode; out = v .registers .out; t = v .registers .t; n = v .registers .n; m = v .registers .m }
+viewSeen v = record { mode = v .mode; out = v .registers .out; t = v .registers .t; n = v .registers .n; m = v .registers .m; ground = v .registers .ground }
 
 abbrev pub viewEntry : View → Call → ℕ → Event → View → Entry
 viewEntry v call n ev w = record { call = call; answer = n; event = ev; before = viewSeen v; after = viewSeen w }

@@ -1,4 +1,5 @@
--- Demand 3 and the sharper statements, for every list of calls on a SIL2 module from power-up: each call is a step.
+-- Demand 3, the sharper statements and that of register 26h, for every list of calls on a SIL2 module from power-up: each call is a
+-- step.
 -- Assumes nothing.
 use mathlib.Core.Bool.{true}
 use mathlib.Core.List.{List, [], _∷_}
@@ -13,10 +14,11 @@ use Rattle.rules.specs.Registers.{outRep, lowBytes}
 use Rattle.rules.specs.declared.Agent.{Agent}
 use Rattle.rules.specs.declared.Fixed.{Fixed}
 use Rattle.rules.proofs.GoodNext.{good-next}
-use Rattle.rules.proofs.GoodStart.{good-start}
+use Rattle.rules.proofs.GoodStart.{good-start, start-ground}
 use Rattle.rules.proofs.NeverUnsound.{never-unsound}
 use Rattle.demand3.specs.Claim.{BytesCalls, Demand3}
 use Rattle.demand3.specs.Events.{eventOf}
+use Rattle.demand3.specs.Grounds.{ShowsGround}
 use Rattle.demand3.specs.History.{History, powerOn, _▸_, entry, history}
 use Rattle.demand3.specs.Numbers.{isLimit}
 use Rattle.demand3.specs.Sharper.{Sharpened}
@@ -24,6 +26,7 @@ use Rattle.demand3.proofs.AskedEvents.{means-asked}
 use Rattle.demand3.proofs.CallDid.{step-did}
 use Rattle.demand3.proofs.Deposed.{sharper}
 use Rattle.demand3.proofs.Device.{HistoryOf, start, step}
+use Rattle.demand3.proofs.Grounds.{grounded}
 use Rattle.demand3.proofs.SafeModules.{StartsSafe, safeModule, holds}
 use Rattle.demand3.proofs.SameNumbers.{same-limit}
 use Rattle.demand3.proofs.ViewFacts.{good-facts}
@@ -35,7 +38,7 @@ start-rep mac iid ver = refl
 
 at-start : (mac iid ver : ℕ) (fixed : Fixed) → StartsSafe (viewOf (powerUp mac iid ver fixed))
 unfolding powerUp
-at-start mac iid ver fixed = record { mode = refl; rep = start-rep mac iid ver; s = refl; heard = refl; assigned = refl }
+at-start mac iid ver fixed = record { mode = refl; rep = start-rep mac iid ver; ground = start-ground mac iid ver; s = refl; heard = refl; assigned = refl }
 
 -- a good agent, and a history of its effects
 pub record Going (h : History) (a : Agent) : Type 0 where
@@ -70,3 +73,7 @@ demand3 mac iid ver fixed f calls b = holds (whole mac iid ver fixed f calls b .
 
 pub sharpened : Sharpened
 sharpened mac iid ver fixed f calls b = sharper (whole mac iid ver fixed f calls b .1 .made)
+
+-- request 5: why the module is in fallback
+pub shows-ground : ShowsGround
+shows-ground mac iid ver fixed f calls b = grounded (whole mac iid ver fixed f calls b .1 .made)

@@ -10,11 +10,12 @@ use Rattle.rules.specs.declared.Agent.{Agent}
 use Rattle.rules.specs.declared.Fixed.{Fixed}
 use Rattle.rules.proofs.FixedStays.{unfit-start}
 use Rattle.demand3.specs.Claim.{BytesCalls, Holds}
+use Rattle.demand3.specs.Grounds.{Grounded}
 use Rattle.demand3.specs.History.{History, powerOn, _▸_, entryOf, entry, history}
 use Rattle.demand3.specs.Reached.{agentAfter, Reached, Begins, Continues}
 use Rattle.demand3.specs.Numbers.{unsound}
 use Rattle.demand3.specs.Sharper.{Sharper}
-use Rattle.demand3.proofs.Proved.{demand3, sharpened}
+use Rattle.demand3.proofs.Proved.{demand3, sharpened, shows-ground}
 use Rattle.demand3.proofs.SameNumbers.{same-limit}
 
 pub reached-holds : {h : History} {a : Agent} → Reached h a → Holds h
@@ -22,6 +23,9 @@ reached-holds r = subst Holds (r .is-history) (demand3 (r .mac) (r .iid) (r .ver
 
 pub reached-sharper : {h : History} {a : Agent} → Reached h a → Sharper h
 reached-sharper r = subst Sharper (r .is-history) (sharpened (r .mac) (r .iid) (r .ver) (r .fixed) (r .fit) (r .calls) (r .bytes))
+
+pub reached-grounded : {h : History} {a : Agent} → Reached h a → Grounded h
+reached-grounded r = subst Grounded (r .is-history) (shows-ground (r .mac) (r .iid) (r .ver) (r .fixed) (r .fit) (r .calls) (r .bytes))
 
 -- one call more
 pub after-more : (a : Agent) (xs : List Call) (x : Call) → agentAfter a (xs ++ (x ∷ [])) ≡ act (agentAfter a xs) x .agent
@@ -80,4 +84,4 @@ module _ (h : History) (a : Agent) (r : Reached h a) (call : Call) (is-bytes : B
 pub continues : (a : Agent) (call : Call) → BytesCall call → (answer : ℕ) (b : Agent) → Answers (act a call) answer b → Continues a call answer b
 continues a call is-bytes answer b does h r =
     let more = reached-more h a r call is-bytes answer b does in
-    record { reached = more; holds = reached-holds more; sharper = reached-sharper more }
+    record { reached = more; holds = reached-holds more; sharper = reached-sharper more; grounded = reached-grounded more }

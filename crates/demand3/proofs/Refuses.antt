@@ -14,7 +14,7 @@ use Rattle.demand3.specs.Words.{AllDiffer, Released, ordered, still}
 
 -- a module with t = n = m = 1 in a mode, each output at x
 abbrev pub shows : ℕ → ℕ → Seen
-shows mode x = record { mode = mode; out = λ i. x; t = 1; n = 1; m = 1 }
+shows mode x = record { mode = mode; out = λ i. x; t = 1; n = 1; m = 1; ground = 0 }
 
 abbrev pub tickEntry : Seen → Seen → Entry
 tickEntry x y = callEntry (tick []) 0 x y
@@ -74,7 +74,7 @@ fallback-not-zero h = omega (arith, h .bounded .sync-silence _ _ now record { ti
 
 -- with the sync limit far off
 abbrev slow : ℕ → ℕ → Seen
-slow mode x = record { mode = mode; out = λ i. x; t = 1; n = 200; m = 1 }
+slow mode x = record { mode = mode; out = λ i. x; t = 1; n = 200; m = 1; ground = 0 }
 
 -- RUN goes on at the other limit
 pub run-past-command-limit : Holds (powerOn ▸ tickEntry (slow inRun 7) (slow inRun 7)) → ⊥

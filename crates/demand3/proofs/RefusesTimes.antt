@@ -14,7 +14,7 @@ use Rattle.demand3.proofs.Refuses.{tickEntry, is-tick}
 
 -- a module with t, each output at x; both limits on silence are far off
 abbrev timed : ℕ → ℕ → ℕ → Seen
-timed t mode x = record { mode = mode; out = λ i. x; t = t; n = 200; m = 200 }
+timed t mode x = record { mode = mode; out = λ i. x; t = t; n = 200; m = 200; ground = 0 }
 
 -- ---- a sync accepted in RUN, with t 16 and w 2
 module _ (past : History) (sync : Call) (src cyc : ℕ) (is-sync : eventOf sync accepted ≡ aSync src cyc) where

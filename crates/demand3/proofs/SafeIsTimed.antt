@@ -1,5 +1,4 @@
 -- An effect on a safe module is one of the moves that keep its syncs in their window. Assumes nothing.
-use mathlib.Core.Bool.{Bool}
 use mathlib.Core.Path.{_≡_, refl, sym, ap, _∙_, subst}
 use Prim.Native.Nat.{ℕ}
 use Rattle.rules.specs.Calls.{Call}
@@ -45,38 +44,38 @@ module _ (v u : View) (f : Facts v) where
   still : {means : Event} {w : View} → Other means → Agree u w → w .mode ≡ v .mode → w .clocks .e ≡ v .clocks .e → w .cycle .heard ≡ v .cycle .heard → w .mark ≡ v .mark → MayDo (timerOf v) means (timerOf u)
   still q a m e h k = moves.kept q (ran-on (a .mode ∙ m)) (same-elapsed a ∙ e) record { heard = same-heard a ∙ h; mark = a .mark ∙ k }
 
-  module _ (call : Call) {ok : Bool} {means : Event} where
-    pub moved : {w : View} → Did v call ok means w → Agree u w → MayDo (timerOf v) means (timerOf u)
-    moved (fellAtTick ev) a = moves.fellAtTick ev (safe a record { mode = refl; zero = λ i b. refl })
-    moved (fellAtTickAndEnd ev) a = moves.fellAtTick ev (safe a record { mode = refl; zero = λ i b. refl })
+  module _ (call : Call) {n : ℕ} {means : Event} where
+    pub moved : {w : View} → Did v call n means w → Agree u w → MayDo (timerOf v) means (timerOf u)
+    moved (fellAtTick g ev at) a = moves.fellAtTick ev (safe a record { mode = refl; zero = λ i b. refl })
+    moved (fellAtTickAndEnd g ev at) a = moves.fellAtTick ev (safe a record { mode = refl; zero = λ i b. refl })
     moved (tickedOn ev below on) a =
         moves.tickedOn ev (ran-on (a .mode)) (runs-or-safe a refl (λ i. refl)) on (same-elapsed a) record { heard = same-heard a; mark = a .mark }
     moved (tickedOnAndEnd ev below ends) a =
-        moves.cycleEnded ev (ran-on (a .mode)) (runs-or-safe a refl (λ i. refl)) (ends .over) (ends .no-mark) (same-elapsed a)
+        moves.cycleEnded ev (ran-on (a .mode)) (runs-or-safe a refl (λ i. refl)) (ends .over) (ends .no-mark) (same-elapsed a) (a .mark)
     moved (kept ev) a = still (other nothing tt ev) a refl refl refl refl
-    moved (lost ev none) a = moves.fell (other nothing tt ev) (a .mode)
+    moved (lost ev none wrong) a = moves.fell (other nothing tt ev) (a .mode)
     moved (missed ev none) a = moves.missedOne ev (ran-on (a .mode)) (same-elapsed a) (same-heard a) (a .mark)
     moved (heardOnly src cyc ev known timely) a =
-        moves.synced src cyc ev (λ run. window-of v (timely run)) (rw (a .registers .t) (f .t-set)) (same-elapsed a) (same-heard a)
+        moves.synced src cyc ev (λ run. window-of v (timely run)) (rw (a .registers .t) (f .t-set)) (same-elapsed a) (same-heard a) (a .mark)
     moved (enteredRun src cyc ev known p q) a =
-        moves.synced src cyc ev (λ run. absurd (not-both (v .mode) run p)) (rw (a .registers .t) (f .t-set)) (same-elapsed a) (same-heard a)
+        moves.synced src cyc ev (λ run. absurd (not-both (v .mode) run p)) (rw (a .registers .t) (f .t-set)) (same-elapsed a) (same-heard a) (a .mark)
     moved (takenOnly r ev due) a = still (other (aRefusedWrite r) tt ev) a refl refl refl refl
     moved (asked r ev due w) a = still (other (aRequest r) tt ev) a refl refl refl refl
     moved (configured r t c m ev due w p) a = still (other (aRequest r) tt ev) a refl refl refl refl
     moved (releasedBy r ev due w o) a = still (other (aRequest r) tt ev) a refl refl refl refl
-    moved (withdrawn r ev due w) a = moves.fell (other (aRequest r) tt ev) (a .mode)
+    moved (withdrawn r ev due w o) a = moves.fell (other (aRequest r) tt ev) (a .mode)
     moved (output r add xs zero ev due w run laid) a = still (other (aRequest r) tt ev) a refl refl refl refl
     moved (namedFirst sid ev no-one) a = still (other (anAssignment sid) tt ev) a refl refl refl refl
     moved (acknowledged sid ev named-is) a = still (other (anAssignment sid) tt ev) a refl refl refl refl
 
     -- t changes in fallback only
-    pub steady : {w : View} → Did v call ok means w → Agree u w → v .mode ≡ inRun → u .registers .t ≡ v .registers .t
-    steady (fellAtTick ev) a run = a .registers .t
-    steady (fellAtTickAndEnd ev) a run = a .registers .t
+    pub steady : {w : View} → Did v call n means w → Agree u w → v .mode ≡ inRun → u .registers .t ≡ v .registers .t
+    steady (fellAtTick g ev at) a run = a .registers .t
+    steady (fellAtTickAndEnd g ev at) a run = a .registers .t
     steady (tickedOn ev below on) a run = a .registers .t
     steady (tickedOnAndEnd ev below ends) a run = a .registers .t
     steady (kept ev) a run = a .registers .t
-    steady (lost ev none) a run = a .registers .t
+    steady (lost ev none wrong) a run = a .registers .t
     steady (missed ev none) a run = a .registers .t
     steady (heardOnly src cyc ev known timely) a run = a .registers .t
     steady (enteredRun src cyc ev known p q) a run = a .registers .t
@@ -84,7 +83,7 @@ module _ (v u : View) (f : Facts v) where
     steady (asked r ev due w) a run = a .registers .t
     steady (configured r t c m ev due w p) a run = absurd (not-both (v .mode) run p)
     steady (releasedBy r ev due w o) a run = a .registers .t
-    steady (withdrawn r ev due w) a run = a .registers .t
+    steady (withdrawn r ev due w o) a run = a .registers .t
     steady (output r add xs zero ev due w run laid) a _ = a .registers .t
     steady (namedFirst sid ev no-one) a run = a .registers .t
     steady (acknowledged sid ev named-is) a run = a .registers .t

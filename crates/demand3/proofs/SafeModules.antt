@@ -7,14 +7,15 @@ use native.Mathlib.Omega.{arith}
 use Rattle.base.proofs.Choosing.{never}
 use Rattle.rules.specs.Calls.{Call}
 use Rattle.rules.specs.Fallback.{withheld}
+use Rattle.rules.specs.Grounds.{noGround}
 use Rattle.rules.specs.State.{inFallback, unheard}
 use Rattle.demand3.specs.Claim.{Everywhere, Holds}
 use Rattle.demand3.specs.Events.{Event, Request}
 use Rattle.demand3.specs.History.{History, powerOn, Entry}
-use Rattle.demand3.specs.Numbers.{isAccepted, unsound}
+use Rattle.demand3.specs.Numbers.{unsound}
 use Rattle.demand3.specs.Sharper.{Takes, Fresh, Brings}
 use Rattle.demand3.proofs.BoundedModules.{StartsBounded, CallBounded, boundedModule, bounded}
-use Rattle.demand3.proofs.Device.{Device, HistoryOf, of-each, does-as}
+use Rattle.demand3.proofs.Device.{Device, HistoryOf, after-all, of-each, does-as}
 use Rattle.demand3.proofs.Effects.{Did}
 use Rattle.demand3.proofs.Ignored.{MeansAsked, Ignored, unchanged-by}
 use Rattle.demand3.proofs.KeptAll.{kept-by}
@@ -31,6 +32,7 @@ use Rattle.demand3.proofs.Views.{View, Agree, Facts}
 pub record StartsSafe (v : View) : Type 0 where
   pub mode : v .mode ≡ inFallback
   pub rep : v .registers .rep ≡ withheld
+  pub ground : v .registers .ground ≡ noGround
   pub s : v .clocks .s ≡ 0
   pub heard : v .cycle .heard ≡ unheard
   pub assigned : v .assigned ≡ false
@@ -39,7 +41,7 @@ pub record StartsSafe (v : View) : Type 0 where
 pub record CallSafe (v : View) (call : Call) (n : ℕ) (means : Event) (u : View) : Type 0 where
   pub facts : Facts v
   pub effect : View
-  pub did : Did v call (isAccepted n) means effect
+  pub did : Did v call n means effect
   pub shows : Agree u effect
   pub sound : n ≡ unsound → ⊥
   -- a call that brings a request means that request, or nothing
@@ -72,6 +74,16 @@ start-link v s = record {
 call-kept : (h : History) (v u : View) (call : Call) (n : ℕ) (means : Event) → CallSafe v call n means u → Linked h v → Kept h v call n means u
 call-kept h v u call n means s l = shows-kept h v u (s .effect) (s .shows) call n means (kept-by h v (s .facts) l call n means (s .did))
 
+-- the links hold after every history
+pub linked : {h : History} {v : View} → HistoryOf safeModule h v → Linked h v
+linked = after-all safeModule Linked start-link (λ h v u call n means s l. call-kept h v u call n means s l .link)
+
+pub as-bounded : {h : History} {v : View} → HistoryOf safeModule h v → HistoryOf boundedModule h (watchdogOf v)
+as-bounded = does-as safeModule boundedModule watchdogOf (λ v. refl) starts-bounded call-bounded
+
+pub as-timed : {h : History} {v : View} → HistoryOf safeModule h v → HistoryOf timedModule h (timerOf v)
+as-timed = does-as safeModule timedModule timerOf (λ v. refl) (λ v s. s .mode) call-timed
+
 -- what is known of one call
 pub record One (h : History) (e : Entry) : Type 0 where
   pub fine : Fine h e
@@ -93,9 +105,9 @@ each-call = of-each safeModule Linked start-link (λ h v u call n means s l. cal
 pub holds : {h : History} {v : View} → HistoryOf safeModule h v → Holds h
 holds m =
     let all = each-call m in
-    let in-time = timed (does-as safeModule timedModule timerOf (λ v. refl) (λ v s. s .mode) call-timed m) in
+    let in-time = timed (as-timed m) in
     record {
-      bounded = bounded (does-as safeModule boundedModule watchdogOf (λ v. refl) starts-bounded call-bounded m);
+      bounded = bounded (as-bounded m);
       outputs = λ past e c. all past e c .fine .outputs;
       leaving-run = λ past e c. all past e c .fine .leaving-run;
       numbers = λ past e c. all past e c .fine .numbers;

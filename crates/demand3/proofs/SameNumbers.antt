@@ -1,4 +1,4 @@
--- The claim's numbers joined to the rules' own: a release order, an output write, the first SEQ, the limit of requests and the
+-- The claim's numbers joined to the rules' own: a release order, an order to fall back, the grounds, an output write, the first SEQ, the limit of requests and the
 -- width of the window mean the same in both. Assumes nothing.
 use mathlib.Core.Bool.{Bool, true, false, _&&_}
 use mathlib.Core.List.{List}
@@ -11,8 +11,9 @@ use lib.ListN.{length, getD}
 use Rattle.base.specs.Choice.{within}
 use Rattle.base.proofs.Choosing.{never, choose-true, by-test, and-left, and-right, and-true}
 use Rattle.rules.specs.Answers as Answers
-use Rattle.rules.specs.Fallback.{released}
+use Rattle.rules.specs.Fallback.{released, withheld}
 use Rattle.rules.specs.Fixed as Limit
+use Rattle.rules.specs.Grounds as Grounds
 use Rattle.rules.specs.Registers as Registers
 use Rattle.rules.specs.Requests as Requests
 use Rattle.rules.specs.State as State
@@ -23,16 +24,19 @@ use Rattle.rules.specs.declared.Span.{Span}
 use Rattle.rules.specs.declared.Span.the-variants.{Release, CycleTime, Limits, Counters, Config, Outputs, Outside}
 use Rattle.rules.proofs.SoundParts.{fits-is}
 use Rattle.rules.proofs.Spans.{InSpan, in-span}
-use Rattle.demand3.specs.Numbers.{inRun, inFallback, tcyc, cnfRep, cnfCyc, outputsAt, lastOutput, image, isLimit, window, accepted, outsideRules, unsound, outsideWindow, isAccepted, firstSeq, writesRelease, writesWithinOutputs}
+use Rattle.demand3.specs.Numbers.{inRun, inFallback, tcyc, cnfRep, cnfCyc, groundAt, outputsAt, lastOutput, image, isLimit, window, noGround, bySyncSilence, byCommandSilence, byWrongCycle, byOrder, byWindow, accepted, cycle, outsideRules, unsound, outsideWindow, isAccepted, firstSeq, writesRelease, writesFallback, writesWithinOutputs}
 
 pub same-modes : (inRun ≡ State.inRun) × (inFallback ≡ State.inFallback)
 same-modes = (refl, refl)
 
-pub same-registers : (tcyc ≡ Registers.tcyc) × (cnfRep ≡ Registers.cnfRep) × (cnfCyc ≡ Registers.cnfCyc) × (outputsAt ≡ Registers.outputsAt) × (image ≡ Registers.image)
-same-registers = (refl, refl, refl, refl, refl)
+pub same-registers : (tcyc ≡ Registers.tcyc) × (cnfRep ≡ Registers.cnfRep) × (cnfCyc ≡ Registers.cnfCyc) × (groundAt ≡ Registers.groundAt) × (outputsAt ≡ Registers.outputsAt) × (image ≡ Registers.image)
+same-registers = (refl, refl, refl, refl, refl, refl)
 
-pub same-answers : (accepted ≡ Answers.accepted) × (outsideRules ≡ Answers.outsideRules) × (unsound ≡ Answers.unsound) × (outsideWindow ≡ Answers.outsideWindow)
-same-answers = (refl, refl, refl, refl)
+pub same-grounds : (noGround ≡ Grounds.noGround) × (bySyncSilence ≡ Grounds.bySyncSilence) × (byCommandSilence ≡ Grounds.byCommandSilence) × (byWrongCycle ≡ Grounds.byWrongCycle) × (byOrder ≡ Grounds.byOrder) × (byWindow ≡ Grounds.byWindow)
+same-grounds = (refl, refl, refl, refl, refl, refl)
+
+pub same-answers : (accepted ≡ Answers.accepted) × (cycle ≡ Answers.cycle) × (outsideRules ≡ Answers.outsideRules) × (unsound ≡ Answers.unsound) × (outsideWindow ≡ Answers.outsideWindow)
+same-answers = (refl, refl, refl, refl, refl)
 
 pub same-accepted : (n : ℕ) → isAccepted n ≡ Answers.isAccepted n
 same-accepted n = refl
@@ -131,15 +135,22 @@ same-test false true f g = g refl
 same-test false false f g = refl
 
 module _ (add : ℕ) (xs : List ℕ) where
-  pub release-order : writesRelease add xs ≡ (isRelease (spanOf add (length xs)) && eqb (getD xs 0 0) released)
-  release-order =
-      same-test (writesRelease add xs) (isRelease (spanOf add (length xs)) && eqb (getD xs 0 0) released)
+  -- a write of x to 17h
+  order-of : (x : ℕ) → (eqb add 0x17 && eqb (length xs) 1 && eqb (getD xs 0 0) x) ≡ (isRelease (spanOf add (length xs)) && eqb (getD xs 0 0) x)
+  order-of x =
+      same-test (eqb add 0x17 && eqb (length xs) 1 && eqb (getD xs 0 0) x) (isRelease (spanOf add (length xs)) && eqb (getD xs 0 0) x)
       (λ h. let both = and-left (eqb add 0x17 && eqb (length xs) 1) _ h in
       and-true _ _
       (ap isRelease (release-span add (length xs) (eqb-true add 0x17 (and-left (eqb add 0x17) _ both)) (eqb-true (length xs) 1 (and-right (eqb add 0x17) _ both))))
       (and-right (eqb add 0x17 && eqb (length xs) 1) _ h))
       (λ h. let p = span-release add (length xs) (only-release (spanOf add (length xs)) (and-left (isRelease (spanOf add (length xs))) _ h)) in
       and-true _ _ (and-true _ _ (eq-eqb add 0x17 (p .0)) (eq-eqb (length xs) 1 (p .1))) (and-right (isRelease (spanOf add (length xs))) _ h))
+
+  pub release-order : writesRelease add xs ≡ (isRelease (spanOf add (length xs)) && eqb (getD xs 0 0) released)
+  release-order = order-of released
+
+  pub fallback-order : writesFallback add xs ≡ (isRelease (spanOf add (length xs)) && eqb (getD xs 0 0) withheld)
+  fallback-order = order-of withheld
 
   pub output-write : writesWithinOutputs add xs ≡ isOutputs (spanOf add (length xs))
   output-write =

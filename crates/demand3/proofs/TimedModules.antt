@@ -8,14 +8,14 @@ use Prim.Native.Nat.{ℕ, _+_, _*_, _≤_, _<_}
 use native.Mathlib.Nat.{zero-mul, one-mul, add-mul, mul-le-mul-right}
 use native.Mathlib.Omega.{arith}
 use Rattle.rules.specs.Calls.{Call}
-use Rattle.rules.specs.State.{isHeard, unheard, isMarked}
+use Rattle.rules.specs.State.{isHeard, unheard, isMarked, unmarked}
 use Rattle.demand3.specs.Claim.{Safe, InWindow, Everywhere}
 use Rattle.demand3.specs.Events.{Event, aTick, aSync, aMissedSync, aRequest, aRefusedWrite, anAssignment, nothing}
 use Rattle.demand3.specs.History.{History, powerOn, _▸_, Entry, Seen}
 use Rattle.demand3.specs.Numbers.{inRun, inFallback, window}
 use Rattle.demand3.specs.Words.{SyncOf, syncAfter, lastSync, silenceAfter, silence, missedAfter, missed, TickAtWindowLimit, SyncInRun}
 use Rattle.demand3.proofs.BoundedModules.{not-both}
-use Rattle.demand3.proofs.Device.{Device, moveEntry, HistoryOf, of-each}
+use Rattle.demand3.proofs.Device.{Device, moveEntry, HistoryOf, after-all, of-each}
 
 -- what matters of a module here: what is seen, whether the cycle is heard, e, and the mark
 pub record Timer : Type 0 where
@@ -56,8 +56,8 @@ RunsOrSafe w = (w .seen .mode ≡ inRun → ⊥) → Safe (w .seen)
 pub data MayDo (v : Timer) (ev : Event) (w : Timer) : Type 0 where
   fellAtTick : ev ≡ aTick → Safe (w .seen) → MayDo v ev w
   tickedOn : ev ≡ aTick → RanOn v w → RunsOrSafe w → v .e + 1 < v .seen .t → w .e ≡ v .e + 1 → Kept v w → MayDo v ev w
-  cycleEnded : ev ≡ aTick → RanOn v w → RunsOrSafe w → v .seen .t ≤ v .e + 1 → (v .seen .mode ≡ inRun → v .mark ≡ isMarked → ⊥) → w .e ≡ 0 → MayDo v ev w
-  synced : (src cyc : ℕ) → ev ≡ aSync src cyc → (v .seen .mode ≡ inRun → Window v) → 0 < w .seen .t → w .e ≡ 0 → w .heard ≡ isHeard → MayDo v ev w
+  cycleEnded : ev ≡ aTick → RanOn v w → RunsOrSafe w → v .seen .t ≤ v .e + 1 → (v .seen .mode ≡ inRun → v .mark ≡ isMarked → ⊥) → w .e ≡ 0 → w .mark ≡ v .mark → MayDo v ev w
+  synced : (src cyc : ℕ) → ev ≡ aSync src cyc → (v .seen .mode ≡ inRun → Window v) → 0 < w .seen .t → w .e ≡ 0 → w .heard ≡ isHeard → w .mark ≡ unmarked → MayDo v ev w
   missedOne : ev ≡ aMissedSync → RanOn v w → w .e ≡ v .e → w .heard ≡ v .heard → w .mark ≡ isMarked → MayDo v ev w
   kept : Other ev → RanOn v w → w .e ≡ v .e → Kept v w → MayDo v ev w
   fell : Other ev → w .seen .mode ≡ inFallback → MayDo v ev w
@@ -73,26 +73,27 @@ timedModule = record { State = Timer; seen = λ v. v .seen; Starts = λ v. v .se
 -- ---- the link
 
 -- x ticks are whole cycles and e; at least one cycle if this one is unheard
-record Whole (t e heard x : ℕ) : Type 0 where
-  cycles : ℕ
-  is : x ≡ cycles * t + e
-  below : e < t
-  later : heard ≡ unheard → 1 ≤ cycles
+pub record Whole (t e heard x : ℕ) : Type 0 where
+  pub cycles : ℕ
+  pub is : x ≡ cycles * t + e
+  pub below : e < t
+  pub later : heard ≡ unheard → 1 ≤ cycles
 
 -- the ticks since a missed sync are in this cycle, and the mark is set
-record Marked (e mark x : ℕ) : Type 0 where
-  is-set : mark ≡ isMarked
-  in-cycle : x ≤ e
+pub record Marked (e mark x : ℕ) : Type 0 where
+  pub is-set : mark ≡ isMarked
+  pub in-cycle : x ≤ e
 
 -- a sync was accepted
-abbrev Accepted : Option SyncOf → Type 0
+abbrev pub Accepted : Option SyncOf → Type 0
 Accepted y = (sync : SyncOf) × (y ≡ some sync)
 
 -- in RUN, against the words of the history
-record Link (h : History) (v : Timer) : Type 0 where
-  synced-once : v .seen .mode ≡ inRun → Accepted (lastSync h)
-  whole : v .seen .mode ≡ inRun → Whole (v .seen .t) (v .e) (v .heard) (silence h)
-  marked : v .seen .mode ≡ inRun → (x : ℕ) → missed h ≡ some x → Marked (v .e) (v .mark) x
+pub record Link (h : History) (v : Timer) : Type 0 where
+  pub synced-once : v .seen .mode ≡ inRun → Accepted (lastSync h)
+  pub whole : v .seen .mode ≡ inRun → Whole (v .seen .t) (v .e) (v .heard) (silence h)
+  pub marked : v .seen .mode ≡ inRun → (x : ℕ) → missed h ≡ some x → Marked (v .e) (v .mark) x
+  pub missed-one : v .seen .mode ≡ inRun → v .mark ≡ isMarked → (x : ℕ) × (missed h ≡ some x)
 
 -- what the claim says of one call
 pub record Right (h : History) (e : Entry) : Type 0 where
@@ -102,7 +103,7 @@ pub record Right (h : History) (e : Entry) : Type 0 where
 
 -- ---- numbers and words
 
-one-cycle : (j t : ℕ) → (j + 1) * t ≡ j * t + t
+pub one-cycle : (j t : ℕ) → (j + 1) * t ≡ j * t + t
 one-cycle j t = add-mul j 1 t ∙ ap (λ (y : ℕ). j * t + y) (one-mul t)
 
 in-window : (h : History) (v : Timer) → Accepted (lastSync h) → Whole (v .seen .t) (v .e) (v .heard) (silence h) → Window v → InWindow h (v .seen .t)
@@ -137,6 +138,11 @@ tick-missed (some x) y e = (x, refl, sym (Option·some-injective (x + 1) y e))
 miss-missed : (o : Option ℕ) (y : ℕ) → missedAfter aMissedSync o ≡ some y → (y ≡ 0) ⊎ (o ≡ some y)
 miss-missed none y e = inl (sym (Option·some-injective 0 y e))
 miss-missed (some x) y e = inr e
+
+-- there is one, whatever was before
+now-missed : (o : Option ℕ) → (x : ℕ) × (missedAfter aMissedSync o ≡ some x)
+now-missed none = (0, refl)
+now-missed (some x) = (x, refl)
 
 other-silence : (ev : Event) (x : ℕ) → Other ev → silenceAfter ev x ≡ x
 other-silence (aRequest r) x q = refl
@@ -186,6 +192,7 @@ module _ (h : History) (v w : Timer) (l : Link h v) (call : Call) (n : ℕ) (ev 
     synced-once = λ p. absurd (not-both (w .seen .mode) p m);
     whole = λ p. absurd (not-both (w .seen .mode) p m);
     marked = λ p. absurd (not-both (w .seen .mode) p m);
+    missed-one = λ p. absurd (not-both (w .seen .mode) p m);
   }
 
   -- the last accepted sync is as it was
@@ -224,17 +231,20 @@ module _ (h : History) (v w : Timer) (l : Link h v) (call : Call) (n : ℕ) (ev 
       synced-once = synced-before (ap (λ (x : Event). syncAfter x (lastSync h)) e) r;
       whole = whole-on e r b y (k .heard);
       marked = λ run x m. let a = marked-before e (r run) x m in record { is-set = k .mark ∙ a .1 .is-set; in-cycle = omega (arith, a .2, a .1 .in-cycle, y) };
+      missed-one = λ run m. let a = l .missed-one (r run) (sym (k .mark) ∙ m) in (a .0 + 1, rw (e, a .1) refl);
     }
-    linked (cycleEnded e r safe b u y) = record {
+    linked (cycleEnded e r safe b u y k) = record {
       synced-once = synced-before (ap (λ (x : Event). syncAfter x (lastSync h)) e) r;
       whole = whole-end e r b y;
       marked = λ run x m. absurd (u (r run) (marked-before e (r run) x m .1 .is-set));
+      missed-one = λ run m. absurd (u (r run) (sym k ∙ m));
     }
-    linked (synced src cyc e win pos y u) = record {
+    linked (synced src cyc e win pos y u k) = record {
       synced-once = λ run. ((src, cyc), ap (λ (x : Event). syncAfter x (lastSync h)) e);
       whole = λ run. let o : 0 * w .seen .t ≡ 0 = zero-mul (w .seen .t) in
           rw (e, y) record { cycles = 0; is = omega arith; below = pos; later = λ p. absurd (omega (arith, u)) };
       marked = λ run x m. absurd (let none-is : none ≡ some x = rw e at m in let z : _≡_ {A = ℕ} 0 1 = cc in omega arith);
+      missed-one = λ run m. absurd (omega (arith, k, m));
     }
     linked (missedOne e r y u k) = record {
       synced-once = synced-before (ap (λ (x : Event). syncAfter x (lastSync h)) e) r;
@@ -243,12 +253,14 @@ module _ (h : History) (v w : Timer) (l : Link h v) (call : Call) (n : ℕ) (ev 
           (λ z. record { is-set = k; in-cycle = omega arith })
           (λ o. record { is-set = k; in-cycle = omega (arith, l .marked (r run) x o .in-cycle, y) })
           (miss-missed (missed h) x (rw e at m));
+      missed-one = λ run m. let a = now-missed (missed h) in (a .0, rw e (a .1));
     }
     linked (kept q r y k) = record {
       synced-once = synced-before (other-sync ev (lastSync h) q) r;
       whole = whole-same (other-silence ev (silence h) q) r y (k .heard);
       marked = λ run x m. let a = l .marked (r run) x (sym (other-missed ev (missed h) q) ∙ m) in
           record { is-set = k .mark ∙ a .is-set; in-cycle = omega (arith, a .in-cycle, y) };
+      missed-one = λ run m. let a = l .missed-one (r run) (sym (k .mark) ∙ m) in (a .0, other-missed ev (missed h) q ∙ a .1);
     }
     linked (fell q m) = link-fell m
 
@@ -256,8 +268,8 @@ module _ (h : History) (v w : Timer) (l : Link h v) (call : Call) (n : ℕ) (ev 
   in-time : MayDo v ev w → SyncInRun this → InWindow h (v .seen .t)
   in-time (fellAtTick e safe) s = absurd (tick-no-sync (s .src) (s .cyc) (sym e ∙ s .sync))
   in-time (tickedOn e r safe b y k) s = absurd (tick-no-sync (s .src) (s .cyc) (sym e ∙ s .sync))
-  in-time (cycleEnded e r safe b u y) s = absurd (tick-no-sync (s .src) (s .cyc) (sym e ∙ s .sync))
-  in-time (synced src cyc e win pos y u) s = in-window h v (l .synced-once (s .run)) (l .whole (s .run)) (win (s .run))
+  in-time (cycleEnded e r safe b u y k) s = absurd (tick-no-sync (s .src) (s .cyc) (sym e ∙ s .sync))
+  in-time (synced src cyc e win pos y u k) s = in-window h v (l .synced-once (s .run)) (l .whole (s .run)) (win (s .run))
   in-time (missedOne e r y u k) s = absurd (miss-no-sync (s .src) (s .cyc) (sym e ∙ s .sync))
   in-time (kept q r y k) s = absurd (subst Other (s .sync) q)
   in-time (fell q m) s = absurd (subst Other (s .sync) q)
@@ -267,8 +279,8 @@ module _ (h : History) (v w : Timer) (l : Link h v) (call : Call) (n : ℕ) (ev 
   at-limit (fellAtTick e safe) x = safe
   at-limit (tickedOn e r safe b y k) x =
       safe (λ run. let a = marked-before e (r run) (x .ticks) (x .since) in omega (arith, b, a .2, a .1 .in-cycle, x .limit))
-  at-limit (cycleEnded e r safe b u y) x = safe (λ run. u (r run) (marked-before e (r run) (x .ticks) (x .since) .1 .is-set))
-  at-limit (synced src cyc e win pos y u) x = absurd (tick-no-sync src cyc (sym (x .tick) ∙ e))
+  at-limit (cycleEnded e r safe b u y k) x = safe (λ run. u (r run) (marked-before e (r run) (x .ticks) (x .since) .1 .is-set))
+  at-limit (synced src cyc e win pos y u k) x = absurd (tick-no-sync src cyc (sym (x .tick) ∙ e))
   at-limit (missedOne e r y u k) x = absurd (miss-no-tick (sym e ∙ x .tick))
   at-limit (kept q r y k) x = absurd (subst Other (x .tick) q)
   at-limit (fell q m) x = absurd (subst Other (x .tick) q)
@@ -279,7 +291,12 @@ at-rest v m = record {
   synced-once = λ p. absurd (not-both (v .seen .mode) p m);
   whole = λ p. absurd (not-both (v .seen .mode) p m);
   marked = λ p. absurd (not-both (v .seen .mode) p m);
+  missed-one = λ p. absurd (not-both (v .seen .mode) p m);
 }
+
+-- the link holds after every history
+pub in-step : {h : History} {v : Timer} → HistoryOf timedModule h v → Link h v
+in-step = after-all timedModule Link at-rest (λ h v w call n ev b l. linked h v w l call n ev (b .steady) (b .move))
 
 pub timed : {h : History} {v : Timer} → HistoryOf timedModule h v → Everywhere Right h
 timed =

@@ -6,16 +6,17 @@ use mathlib.Core.Path.{_≡_}
 use Prim.Native.Nat.{ℕ, _+_, _≤_, _<_}
 use lib.Dec.{eqb}
 use lib.ListN.{getD}
-use Rattle.rules.specs.Registers.{sidAt, outRep, tcyc, cnfRep, cnfCyc, outputsAt, image, lowNumber}
+use Rattle.rules.specs.Registers.{sidAt, outRep, tcyc, cnfRep, cnfCyc, groundAt, outputsAt, image, lowNumber}
 use Rattle.rules.specs.State.{inRun, inFallback, nobody}
 use Rattle.rules.specs.declared.Agent.{Agent}
 
--- what its registers show: OUT_REP, t, n, m, the outputs, the SID
+-- what its registers show: OUT_REP, t, n, m, the ground, the outputs, the SID
 pub record RegisterView : Type 0 where
   pub rep : ℕ
   pub t : ℕ
   pub n : ℕ
   pub m : ℕ
+  pub ground : ℕ
   pub out : ℕ → ℕ
   pub sid : ℕ
 
@@ -47,6 +48,7 @@ registersOf r = record {
   t = getD r tcyc 0;
   n = getD r cnfCyc 0;
   m = getD r cnfRep 0;
+  ground = getD r groundAt 0;
   out = λ i. getD r (outputsAt + i) 0;
   sid = lowNumber r sidAt 3;
 }
@@ -67,6 +69,7 @@ pub record SameRegisters (x y : RegisterView) : Type 0 where
   pub t : x .t ≡ y .t
   pub n : x .n ≡ y .n
   pub m : x .m ≡ y .m
+  pub ground : x .ground ≡ y .ground
   pub out : (i : ℕ) → i < image → x .out i ≡ y .out i
   pub sid : x .sid ≡ y .sid
 

@@ -9,6 +9,7 @@ use lib.Dec.{eqb}
 use lib.ListN.{length, getD}
 use Rattle.base.proofs.Choosing.{by-test, and-left, and-true, or-cases}
 use Rattle.rules.specs.Fallback.{released, withheld}
+use Rattle.rules.specs.Grounds.{byOrder}
 use Rattle.rules.specs.Good.{Good}
 use Rattle.rules.specs.Requests.{writes}
 use Rattle.rules.specs.State.{inRun, running, tOf, nOf, mOf, withTaken, withIdle, storeAll}
@@ -17,12 +18,12 @@ use Rattle.rules.specs.declared.Agent.{Agent}
 use Rattle.rules.specs.declared.Span.{Span}
 use Rattle.rules.specs.declared.Span.the-variants.{Release, CycleTime, Limits, Counters, Config, Outputs, Outside}
 use Rattle.rules.proofs.Spans.{InSpan, in-span}
-use Rattle.demand3.specs.Events.{aRequest, ordersRelease, writesOutputs, Request}
+use Rattle.demand3.specs.Events.{aRequest, ordersRelease, ordersFallback, writesOutputs, Request}
 use Rattle.demand3.specs.Numbers.{isAccepted}
 use Rattle.demand3.proofs.AgentViews.{agree-refl, apart-view, fallen-view, release-view, limits-view, outputs-view}
 use Rattle.demand3.proofs.Effects.{Told, fallen, takes, limits, releases, outputs, Due, LaidWrite, asked, configured, releasedBy, withdrawn, output}
 use Rattle.demand3.proofs.RegisterViews.{apart-middle}
-use Rattle.demand3.proofs.SameNumbers.{isRelease, isOutputs, release-order, output-write}
+use Rattle.demand3.proofs.SameNumbers.{isRelease, isOutputs, release-order, fallback-order, output-write}
 use Rattle.demand3.proofs.ViewFacts.{two-modes}
 use Rattle.demand3.proofs.Steps.{Leaves}
 use Rattle.demand3.proofs.Views.{viewOf, Agree}
@@ -43,15 +44,18 @@ module _ (a : Agent) (good : Good a) (call : Told) (n : ℕ) (ok : isAccepted n 
   release-of : spanOf add (length xs) ≡ Release → eqb (getD xs 0 0) released ≡ true → ordersRelease (r .ask) ≡ true
   release-of e o = ap ordersRelease is ∙ release-order add xs ∙ and-true _ _ (ap isRelease e) o
 
+  fallback-of : spanOf add (length xs) ≡ Release → eqb (getD xs 0 0) withheld ≡ true → ordersFallback (r .ask) ≡ true
+  fallback-of e o = ap ordersFallback is ∙ fallback-order add xs ∙ and-true _ _ (ap isRelease e) o
+
   -- 17h: 55h releases, AAh means fallback
   release-did : spanOf add (length xs) ≡ Release → allowed Release (oneMore a) add xs ≡ true → Leaves a call n (written Release (oneMore a) add xs)
   release-did e h =
       let p : InSpan add (length xs) Release = in-span add (length xs) Release e refl in
       by-test (Leaves a call n) (eqb (getD xs 0 0) withheld)
       (λ w. record {
-        view = fallen (takes (viewOf a));
-        did = withdrawn r done due (outputs-of Release e);
-        shows = fallen-view (oneMore a) (takes (viewOf a)) (good .registers) (taken-view a);
+        view = fallen byOrder (takes (viewOf a));
+        did = withdrawn r done due (outputs-of Release e) (fallback-of e w);
+        shows = fallen-view byOrder (oneMore a) (takes (viewOf a)) (good .registers) (taken-view a);
       })
       (λ w. or-cases (eqb (getD xs 0 0) released) (eqb (getD xs 0 0) withheld) h
       (λ o. record {
@@ -62,7 +66,7 @@ module _ (a : Agent) (good : Good a) (call : Told) (n : ℕ) (ok : isAccepted n 
       (λ o. absurd (let z : _≡_ {A = ℕ} 0 1 = cc in omega arith)))
 
   -- 18h, and 1Ah to 1Dh, in fallback
-  settings-did : (span : Span) → spanOf add (length xs) ≡ span → isOutputs span ≡ false → 0x18 ≤ add → add + length xs ≤ 0x80
+  settings-did : (span : Span) → spanOf add (length xs) ≡ span → isOutputs span ≡ false → 0x18 ≤ add → add + length xs ≤ 0x26
       → not (running a) ≡ true → Leaves a call n (storeAll add xs (oneMore a))
   settings-did span e o low high f =
       let b : Agent = storeAll add xs (oneMore a) in
@@ -74,7 +78,7 @@ module _ (a : Agent) (good : Good a) (call : Told) (n : ℕ) (ok : isAccepted n 
       }
 
   -- 1Eh to 24h, and 25h
-  counters-did : (span : Span) → spanOf add (length xs) ≡ span → isOutputs span ≡ false → 0x1C ≤ add → add + length xs ≤ 0x80
+  counters-did : (span : Span) → spanOf add (length xs) ≡ span → isOutputs span ≡ false → 0x1C ≤ add → add + length xs ≤ 0x26
       → Leaves a call n (storeAll add xs (oneMore a))
   counters-did span e o low high = record {
     view = takes (viewOf a);

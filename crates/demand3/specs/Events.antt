@@ -15,7 +15,7 @@ use Rattle.frame_reading.specs.declared.Reading.the-variants as reading
 use Rattle.frame_reading.specs.declared.Received.{Received}
 use Rattle.rules.specs.Calls.{Call, tick, frame}
 use Rattle.rules.specs.Requests.{Ask, reads, writes}
-use Rattle.demand3.specs.Numbers.{isAccepted, outsideRules, outsideWindow, writesRelease, writesWithinOutputs}
+use Rattle.demand3.specs.Numbers.{isAccepted, outsideRules, outsideWindow, writesRelease, writesFallback, writesWithinOutputs}
 
 -- a safe request: DEST, SRC, CYC, SEQ and what it asks for
 pub record Request : Type 0 where
@@ -80,10 +80,14 @@ unfoldable pub eventOf : Call → ℕ → Event
 eventOf (tick xs) n = choose (isAccepted n) aTick nothing
 eventOf (frame port body room) n = ofReceived (readFrame body) n
 
--- whether a request is a release order, and whether it is an output write
+-- whether a request is a release order, an order to fall back, an output write
 abbrev pub ordersRelease : Ask → Bool
 ordersRelease (reads datl add) = false
 ordersRelease (writes add xs) = writesRelease add xs
+
+abbrev pub ordersFallback : Ask → Bool
+ordersFallback (reads datl add) = false
+ordersFallback (writes add xs) = writesFallback add xs
 
 abbrev pub writesOutputs : Ask → Bool
 writesOutputs (reads datl add) = false

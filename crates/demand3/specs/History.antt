@@ -1,5 +1,5 @@
 -- The history of a list of calls from power-up: each call, its answer, what the two amount to, and what may be seen of
--- the agent before and after: mode, outputs, t, n, m. The agent's counters are not part of it. Assumes nothing.
+-- the agent before and after: mode, outputs, t, n, m and the ground in 26h. The agent's counters are not part of it. Assumes nothing.
 use mathlib.Core.List.{List, [], _∷_}
 use Prim.Native.Nat.{ℕ, _+_}
 use lib.ListN.{getD}
@@ -7,7 +7,7 @@ use Rattle.rules.specs.Calls.{Call, act}
 use Rattle.rules.specs.Replies.{Outcome}
 use Rattle.rules.specs.declared.Agent.{Agent}
 use Rattle.demand3.specs.Events.{Event, eventOf}
-use Rattle.demand3.specs.Numbers.{tcyc, cnfRep, cnfCyc, outputsAt}
+use Rattle.demand3.specs.Numbers.{tcyc, cnfRep, cnfCyc, groundAt, outputsAt}
 
 infixl 20 _▸_
 -- outputs are counted from 0 to 63
@@ -17,6 +17,7 @@ pub record Seen : Type 0 where
   pub t : ℕ
   pub n : ℕ
   pub m : ℕ
+  pub ground : ℕ
 
 pub record Entry : Type 0 where
   pub call : Call
@@ -38,6 +39,7 @@ seenOf mode regs = record {
   t = getD regs tcyc 0;
   n = getD regs cnfCyc 0;
   m = getD regs cnfRep 0;
+  ground = getD regs groundAt 0;
 }
 
 abbrev pub seen : Agent → Seen

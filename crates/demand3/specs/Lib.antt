@@ -4,4 +4,5 @@ pub mod History
 pub mod Words
 pub mod Claim
 pub mod Sharper
+pub mod Grounds
 pub mod Reached

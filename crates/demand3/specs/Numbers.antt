@@ -13,7 +13,7 @@ inRun = 1
 abbrev pub inFallback : ℕ
 inFallback = 0
 
--- TCYC, CNF_REP and CNF_CYC; the outputs are 80h to BFh
+-- TCYC, CNF_REP and CNF_CYC; the ground; the outputs are 80h to BFh
 abbrev pub tcyc : ℕ
 tcyc = 0x18
 
@@ -22,6 +22,9 @@ cnfRep = 0x1A
 
 abbrev pub cnfCyc : ℕ
 cnfCyc = 0x1B
+
+abbrev pub groundAt : ℕ
+groundAt = 0x26
 
 abbrev pub outputsAt : ℕ
 outputsAt = 0x80
@@ -41,9 +44,31 @@ isLimit n = eqb n 16 || eqb n 64
 abbrev pub window : ℕ → ℕ
 window t = max 1 (t / 8)
 
--- the answers that the claim names: accepted; a write outside the rules; an unsound state; a sync outside its window
+-- the grounds: none since power-up, sync silence, command silence, wrong cycle, order, window
+abbrev pub noGround : ℕ
+noGround = 0
+
+abbrev pub bySyncSilence : ℕ
+bySyncSilence = 1
+
+abbrev pub byCommandSilence : ℕ
+byCommandSilence = 2
+
+abbrev pub byWrongCycle : ℕ
+byWrongCycle = 3
+
+abbrev pub byOrder : ℕ
+byOrder = 4
+
+abbrev pub byWindow : ℕ
+byWindow = 5
+
+-- the answers that the claim names: accepted; a wrong cycle; a write outside the rules; an unsound state; a sync outside its window
 abbrev pub accepted : ℕ
 accepted = 0
+
+abbrev pub cycle : ℕ
+cycle = 12
 
 abbrev pub outsideRules : ℕ
 outsideRules = 16
@@ -65,6 +90,10 @@ firstSeq cyc = (0xFF - cyc + 1) % 256
 -- a release order: a write of 55h to 17h
 abbrev pub writesRelease : ℕ → List ℕ → Bool
 writesRelease add xs = eqb add 0x17 && eqb (length xs) 1 && eqb (getD xs 0 0) 0x55
+
+-- an order to fall back: a write of AAh to 17h
+abbrev pub writesFallback : ℕ → List ℕ → Bool
+writesFallback add xs = eqb add 0x17 && eqb (length xs) 1 && eqb (getD xs 0 0) 0xAA
 
 -- an output write: at least one byte, wholly within 80h to BFh
 abbrev pub writesWithinOutputs : ℕ → List ℕ → Bool

@@ -1,5 +1,5 @@
--- Demand 3 as a clause of a contract: what one call adds to every history from power-up that ended in the agent passed
--- to it. Power-up begins a history, each call continues it, and demand 3 holds at each step. Assumes nothing.
+-- Demand 3, and what 26h shows, as a clause of a contract: what one call adds to every history from power-up that ended in the
+-- agent passed to it. Power-up begins a history, each call continues it, and both hold at each step. Assumes nothing.
 use mathlib.Core.Bool.{true, false}
 use mathlib.Core.List.{List, [], _∷_}
 use mathlib.Core.Path.{_≡_}
@@ -10,6 +10,7 @@ use Rattle.rules.specs.Replies.{outcome}
 use Rattle.rules.specs.declared.Agent.{Agent}
 use Rattle.rules.specs.declared.Fixed.{Fixed}
 use Rattle.demand3.specs.Claim.{BytesCalls, Holds}
+use Rattle.demand3.specs.Grounds.{Grounded}
 use Rattle.demand3.specs.History.{History, powerOn, _▸_, entryOf, history}
 use Rattle.demand3.specs.Numbers.{isLimit, unsound}
 use Rattle.demand3.specs.Sharper.{Sharper}
@@ -39,11 +40,12 @@ pub record Begins (fixed : Fixed) (a : Agent) : Type 0 where
   pub unfit : isLimit (fixed .limit) ≡ false → (call : Call) → act a call ≡ outcome unsound a
 
 -- the history with one more call, made on the agent a, with this answer, leaving the agent b: it is a history from
--- power-up too, and demand 3 and the sharper statements hold of it
+-- power-up too, and demand 3, the sharper statements and that of register 26h hold of it
 pub record Next (h : History) (a : Agent) (call : Call) (answer : ℕ) (b : Agent) : Type 0 where
   pub reached : Reached (h ▸ entryOf a call answer b) b
   pub holds : Holds (h ▸ entryOf a call answer b)
   pub sharper : Sharper (h ▸ entryOf a call answer b)
+  pub grounded : Grounded (h ▸ entryOf a call answer b)
 
 -- this holds for every history that ended in a
 abbrev pub Continues : Agent → Call → ℕ → Agent → Type 0

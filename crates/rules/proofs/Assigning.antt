@@ -16,7 +16,8 @@ use Rattle.base.proofs.Choosing.{and-left, and-right}
 use Rattle.base.proofs.Outside.{Outside, outside-sets, same-behind}
 use Rattle.base.proofs.Stored.{stored-in}
 use Rattle.rules.specs.Assignments.{assignable}
-use Rattle.rules.specs.Registers.{typAt, tidAt, sidAt, outRep, tcyc, statut, cnfRep, cnfCyc, outputsAt, lowBytes, lowNumber}
+use Rattle.rules.specs.Grounds.{isGround}
+use Rattle.rules.specs.Registers.{typAt, tidAt, sidAt, outRep, tcyc, statut, cnfRep, cnfCyc, groundAt, outputsAt, lowBytes, lowNumber}
 use Rattle.rules.specs.Sources.{holds, recorded}
 use Rattle.rules.specs.State.{nobody, store, storeAll}
 use Rattle.rules.specs.declared.Agent.{Agent}
@@ -48,6 +49,7 @@ good-tid a tid g ok =
           rep-is = rw (o outRep tt) (s .rep-is);
           tid-is = inr (rw e ok);
           typ-is = o typAt tt ∙ s .typ-is;
+          ground-is = ap isGround (o groundAt tt) ∙ s .ground-is;
         };
         sources = p .sources;
         named = named-kept r q (a .count) (sid-same r q (o 0x14 tt) (o 0x15 tt) (o 0x16 tt)) (p .named);
@@ -114,7 +116,7 @@ module _ (a : Agent) (src : ℕ) (g : GoodTo 254 a) (few : a .count < 8) (someon
       let e : lowNumber q sidAt 3 ≡ sid = low-stored r sidAt 3 sid b (omega (arith, g .registers .are-256)) in
       record {
         parts = record {
-          settings = settings-kept r q record { typ = o typAt tt; tid = o tidAt tt; limits = l } (p .settings);
+          settings = settings-kept r q record { typ = o typAt tt; tid = o tidAt tt; ground = o groundAt tt; limits = l } (p .settings);
           sources = sources-more;
           named = record { no-sid = λ h. absurd (omega (arith, h)); no-source = λ h. absurd (other (sym e ∙ h)) };
           fixed = p .fixed;

@@ -6,15 +6,16 @@ use mathlib.Core.Path.{_≡_, refl, _∙_}
 use Prim.Native.Nat.{ℕ, _+_, _-_, _<_}
 use native.Mathlib.Omega.{arith}
 use lib.Dec.{eqb}
-use lib.Bits.{bitOr}
+use lib.Bits.{bitAnd, bitOr}
 use lib.ListN.{length, replicate, getD-replicate}
 use lib.Seq.{sets, length-sets}
 use Rattle.base.proofs.Choosing.{choose-true, or-second}
-use Rattle.base.proofs.Stored.{stored-in}
+use Rattle.base.proofs.Stored.{stored-behind, stored-in}
 use Rattle.rules.specs.Answers.{source, cycle, repeat}
-use Rattle.rules.specs.Fallback.{withheld, enterFallback, enterRun}
+use Rattle.rules.specs.Fallback.{withheld, groundAfter, enterFallback, enterRun}
+use Rattle.rules.specs.Grounds.{bySyncSilence}
 use Rattle.rules.specs.Marks.{sequenceMarked}
-use Rattle.rules.specs.Registers.{outRep, statut, outputsAt, image}
+use Rattle.rules.specs.Registers.{outRep, statut, groundAt, outputsAt, image}
 use Rattle.rules.specs.Replies.{does}
 use Rattle.rules.specs.Requests.{Ask, onRequest}
 use Rattle.rules.specs.Sources.{isRecorded, sidOf}
@@ -47,16 +48,19 @@ module _ (port : ℕ) (a : Agent) (dest src cyc seq : ℕ) (ask : Ask) where
   unheard-request e f g = simp (e, f, g)
 
 -- no output outlasts the entry to fallback
-pub fallback-clears : (a : Agent) → length (a .regs) ≡ 256 → (i : ℕ) → i < image → reg (enterFallback a) (outputsAt + i) ≡ 0
+pub fallback-clears : (g : ℕ) (a : Agent) → length (a .regs) ≡ 256 → (i : ℕ) → i < image → reg (enterFallback g a) (outputsAt + i) ≡ 0
 unfolding enterFallback
-fallback-clears a e i h =
-    let r : List ℕ = sets (sets (a .regs) statut (bitOr (reg a statut) 0x80 ∷ [])) outRep (withheld ∷ []) in
-    let l : length r ≡ 256 = length-sets (sets (a .regs) statut (bitOr (reg a statut) 0x80 ∷ [])) outRep (withheld ∷ []) ∙ length-sets (a .regs) statut (bitOr (reg a statut) 0x80 ∷ []) ∙ e in
+fallback-clears g a e i h =
+    let s : List ℕ = sets (a .regs) statut (bitOr (reg a statut) 0x80 ∷ []) in
+    let q : List ℕ = sets s outRep (withheld ∷ []) in
+    let r : List ℕ = sets q groundAt (groundAfter g a ∷ []) in
+    let l : length r ≡ 256 =
+    length-sets q groundAt (groundAfter g a ∷ []) ∙ length-sets s outRep (withheld ∷ []) ∙ length-sets (a .regs) statut (bitOr (reg a statut) 0x80 ∷ []) ∙ e in
     stored-in r outputsAt (replicate image 0) (outputsAt + i) (omega arith) (omega arith) (omega arith)
     ∙ getD-replicate image (outputsAt + i - outputsAt) 0 0 (omega arith)
 
 -- no release is left pending after n × t of silence: OUT_REP falls in either mode
-pub silent-release : (a : Agent) → syncLimit a ≡ true → limited a ≡ enterFallback a
+pub silent-release : (a : Agent) → syncLimit a ≡ true → limited a ≡ enterFallback bySyncSilence a
 unfolding limited
 silent-release a e = simp e
 
@@ -69,3 +73,8 @@ cycle-wraps a e = simp e
 pub run-restarts : (a : Agent) → enterRun a .idle ≡ 0
 unfolding enterRun
 run-restarts a = refl
+
+-- and 26h keeps what it showed
+pub run-keeps-ground : (a : Agent) → reg (enterRun a) groundAt ≡ reg a groundAt
+unfolding enterRun
+run-keeps-ground a = stored-behind (a .regs) statut (bitAnd (reg a statut) 0x7F ∷ []) groundAt (omega arith)

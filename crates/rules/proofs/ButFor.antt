@@ -13,10 +13,11 @@ use lib.Seq.{sets, length-sets, getD-set-other}
 use Rattle.base.specs.Choice.{within}
 use Rattle.base.proofs.Choosing.{never, or-left-false, or-right-false}
 use Rattle.base.proofs.Stored.{stored-before, stored-behind}
-use Rattle.rules.specs.Fallback.{withheld, enterFallback}
+use Rattle.rules.specs.Fallback.{withheld, groundAfter, enterFallback}
+use Rattle.rules.specs.Grounds.{byWrongCycle}
 use Rattle.rules.specs.Marks.{counter, lineMarked, formatMarked, sequenceMarked, windowMarked}
 use Rattle.rules.specs.Refusals.{Change, nothing, lineMark, formatMark, sequenceMark, sequenceFall, windowMark, oneTaken, changed, namesRegister, ButFor}
-use Rattle.rules.specs.Registers.{outRep, statut, cptSeq, cptFor, outputsAt, image}
+use Rattle.rules.specs.Registers.{outRep, statut, cptSeq, cptFor, groundAt, outputsAt, image}
 use Rattle.rules.specs.State.{reg, store, withRegs}
 use Rattle.rules.specs.declared.Agent.{Agent}
 
@@ -54,12 +55,15 @@ module _ (a : Agent) where
   unfolding windowMarked
   window-others i e = other-stored statut (bitOr (reg a statut) 0x02) a i e
 
-  pub fallback-others : (i : ℕ) → eqb i statut ≡ false → eqb i outRep ≡ false → within 0x80 0xBF i ≡ false → reg (enterFallback a) i ≡ reg a i
+  pub fallback-others : (g i : ℕ) → eqb i statut ≡ false → eqb i outRep ≡ false → eqb i groundAt ≡ false → within 0x80 0xBF i ≡ false
+      → reg (enterFallback g a) i ≡ reg a i
   unfolding enterFallback
-  fallback-others i e h k =
+  fallback-others g i e h n k =
       let marked : Agent = store statut (bitOr (reg a statut) 0x80) a in
-      outputs-stored (store outRep withheld marked .regs) (replicate image 0) i (length-replicate {A = ℕ} image 0) k
-      ∙ other-stored outRep withheld marked i h ∙ other-stored statut (bitOr (reg a statut) 0x80) a i e
+      let held : Agent = store outRep withheld marked in
+      outputs-stored (store groundAt (groundAfter g a) held .regs) (replicate image 0) i (length-replicate {A = ℕ} image 0) k
+      ∙ other-stored groundAt (groundAfter g a) held i n ∙ other-stored outRep withheld marked i h
+      ∙ other-stored statut (bitOr (reg a statut) 0x80) a i e
 
 -- a change of registers alone
 only-registers : (c : Change) (a : Agent) (r : List ℕ) → ((i : ℕ) → namesRegister c i ≡ false → getD r i 0 ≡ reg a i) → length r ≡ length (a .regs)
@@ -96,23 +100,28 @@ module _ (a : Agent) where
   unfolding windowMarked
   window-size = length-sets (a .regs) statut (bitOr (reg a statut) 0x02 ∷ [])
 
-  fallen-size : length (enterFallback a .regs) ≡ length (a .regs)
+  fallen-size : (g : ℕ) → length (enterFallback g a .regs) ≡ length (a .regs)
   unfolding enterFallback
-  fallen-size =
+  fallen-size g =
       let marked : Agent = store statut (bitOr (reg a statut) 0x80) a in
-      length-sets (store outRep withheld marked .regs) outputsAt (replicate image 0)
-      ∙ length-sets (marked .regs) outRep (withheld ∷ []) ∙ length-sets (a .regs) statut (bitOr (reg a statut) 0x80 ∷ [])
+      let held : Agent = store outRep withheld marked in
+      length-sets (store groundAt (groundAfter g a) held .regs) outputsAt (replicate image 0)
+      ∙ length-sets (held .regs) groundAt (groundAfter g a ∷ []) ∙ length-sets (marked .regs) outRep (withheld ∷ [])
+      ∙ length-sets (a .regs) statut (bitOr (reg a statut) 0x80 ∷ [])
 
   sequence-but : (i : ℕ) → (eqb i statut || eqb i cptSeq) ≡ false → reg (sequenceMarked a) i ≡ reg a i
   sequence-but i h = sequence-others a i (or-left-false (eqb i statut) (eqb i cptSeq) h) (or-right-false (eqb i statut) (eqb i cptSeq) h)
 
-  fell-but : (i : ℕ) → namesRegister sequenceFall i ≡ false → reg (enterFallback (sequenceMarked a)) i ≡ reg a i
+  fell-but : (i : ℕ) → namesRegister sequenceFall i ≡ false → reg (enterFallback byWrongCycle (sequenceMarked a)) i ≡ reg a i
   fell-but i h =
+      let last : Bool = eqb i groundAt || within 0x80 0xBF i in
       let st : eqb i statut ≡ false = or-left-false (eqb i statut) _ h in
-      let past = or-right-false (eqb i statut) (eqb i cptSeq || (eqb i outRep || within 0x80 0xBF i)) h in
-      let rest = or-right-false (eqb i cptSeq) (eqb i outRep || within 0x80 0xBF i) past in
-      fallback-others (sequenceMarked a) i st (or-left-false (eqb i outRep) (within 0x80 0xBF i) rest) (or-right-false (eqb i outRep) (within 0x80 0xBF i) rest)
-      ∙ sequence-others a i st (or-left-false (eqb i cptSeq) (eqb i outRep || within 0x80 0xBF i) past)
+      let past = or-right-false (eqb i statut) (eqb i cptSeq || (eqb i outRep || last)) h in
+      let rest = or-right-false (eqb i cptSeq) (eqb i outRep || last) past in
+      let end = or-right-false (eqb i outRep) last rest in
+      fallback-others (sequenceMarked a) byWrongCycle i st (or-left-false (eqb i outRep) last rest)
+      (or-left-false (eqb i groundAt) (within 0x80 0xBF i) end) (or-right-false (eqb i groundAt) (within 0x80 0xBF i) end)
+      ∙ sequence-others a i st (or-left-false (eqb i cptSeq) (eqb i outRep || last) past)
 
 module _ (a : Agent) where
   pub but-for : (c : Change) → ButFor c a (changed c a)
@@ -124,7 +133,7 @@ module _ (a : Agent) where
   but-for sequenceMark = only-registers sequenceMark a (sequenceMarked a .regs) (sequence-but a) (sequence-size a)
   but-for sequenceFall = record {
     registers = fell-but a;
-    size = fallen-size (sequenceMarked a) ∙ sequence-size a;
+    size = fallen-size (sequenceMarked a) byWrongCycle ∙ sequence-size a;
     mode = λ e. never (sym e);
     q = λ e. never (sym e);
     k = λ e. refl;

@@ -12,8 +12,8 @@ use lib.Seq.{sets, getD-set-same, set-out}
 use Rattle.base.proofs.Choosing.{by-test, and-left, and-right}
 use Rattle.base.proofs.Stored.{stored-before, stored-behind}
 use Rattle.rules.specs.Counters.{isCounter}
-use Rattle.rules.specs.Fallback.{released, withheld, enterFallback, enterRun}
-use Rattle.rules.specs.Registers.{outRep, statut, outputsAt, image}
+use Rattle.rules.specs.Fallback.{released, withheld, groundAfter, enterFallback, enterRun}
+use Rattle.rules.specs.Registers.{outRep, statut, groundAt, outputsAt, image}
 use Rattle.rules.specs.State.{running, reg, tOf}
 use Rattle.rules.specs.Sync.{heardSync, synced}
 use Rattle.rules.specs.Tick.{counted, syncLimit, commandLimit, windowLimit, limited, cycleEnded, ticked}
@@ -80,14 +80,16 @@ quiet-sent r =
 
 -- ---- what rules are made of
 module _ (a : Agent) where
-  pub calm-fallen : Calm (a .regs) (enterFallback a .regs)
+  pub calm-fallen : (g : ℕ) → Calm (a .regs) (enterFallback g a .regs)
   unfolding enterFallback
-  calm-fallen =
+  calm-fallen g =
       let x : ℕ = bitOr (reg a statut) 0x80 in
       let r : List ℕ = sets (a .regs) statut (x ∷ []) in
       let q : List ℕ = sets r outRep (withheld ∷ []) in
+      let p : List ℕ = sets q groundAt (groundAfter g a ∷ []) in
       calm-then (calm-status (a .regs) x (quiet-fallback (reg a statut)))
-      (calm-then (calm-before r outRep (withheld ∷ []) (omega arith)) (calm-behind q outputsAt (replicate image 0) (omega arith)))
+      (calm-then (calm-before r outRep (withheld ∷ []) (omega arith))
+      (calm-then (calm-behind q groundAt (groundAfter g a ∷ []) (omega arith)) (calm-behind p outputsAt (replicate image 0) (omega arith))))
 
   pub calm-synced : (src cyc : ℕ) → Calm (a .regs) (synced src cyc a .regs)
   unfolding synced heardSync enterRun
@@ -99,9 +101,9 @@ module _ (a : Agent) where
   calm-limited : Calm (a .regs) (limited (counted a) .regs)
   unfolding limited counted
   calm-limited =
-      by-test (λ (b : Agent). Calm (a .regs) (b .regs)) (syncLimit (counted a)) (λ e. calm-fallen (counted a))
-      (λ e. by-test (λ (b : Agent). Calm (a .regs) (b .regs)) (commandLimit (counted a)) (λ h. calm-fallen (counted a))
-      (λ h. by-test (λ (b : Agent). Calm (a .regs) (b .regs)) (windowLimit (counted a)) (λ w. calm-fallen (counted a)) (λ w. calm-same (a .regs))))
+      by-test (λ (b : Agent). Calm (a .regs) (b .regs)) (syncLimit (counted a)) (λ e. calm-fallen (counted a) _)
+      (λ e. by-test (λ (b : Agent). Calm (a .regs) (b .regs)) (commandLimit (counted a)) (λ h. calm-fallen (counted a) _)
+      (λ h. by-test (λ (b : Agent). Calm (a .regs) (b .regs)) (windowLimit (counted a)) (λ w. calm-fallen (counted a) _) (λ w. calm-same (a .regs))))
 
   pub calm-ticked : Calm (a .regs) (ticked a .regs)
   unfolding ticked cycleEnded

@@ -18,6 +18,7 @@ use Rattle.rules.specs.Answers.{cycle, outsideRules, outsideWindow, acce
 use Rattle.rules.specs.Calls.{Call, frame, act}
 use Rattle.rules.specs.Counters.{Brings, brings, as-before, written, Counts}
 use Rattle.rules.specs.Fallback.{withheld}
+use Rattle.rules.specs.Grounds.{byOrder}
 use Rattle.rules.specs.Inputs.{withInputs}
 use Rattle.rules.specs.Refusals.{readOf, isSync, readsSync}
 use Rattle.rules.specs.Registers.{tidAt, sidAt, statut, inputsAt, lowBytes}
@@ -59,7 +60,7 @@ module _ {dest src cyc seq datl add : ℕ} {xs : List ℕ} {call : Call} (a : Ag
   write-keeps : (s : Span) → Placed add (length xs) s → writes.allowed s (withTaken k a) add xs ≡ true
       → Keeps a call accepted (writes.written s (withTaken k a) add xs)
   write-keeps span.Release (inside _ some l h) ok =
-      by-test (Keeps a call accepted) (eqb (getD xs 0 0) withheld) (λ e. calmly call accepted (calm-fallen (withTaken k a)))
+      by-test (Keeps a call accepted) (eqb (getD xs 0 0) withheld) (λ e. calmly call accepted (calm-fallen (withTaken k a) byOrder))
       (λ e. calmly call accepted (calm-before (a .regs) add xs (omega arith)))
   write-keeps span.CycleTime (inside _ some l h) ok = calmly call accepted (calm-before (a .regs) add xs h)
   write-keeps span.Limits (inside _ some l h) ok = calmly call accepted (calm-between (a .regs) add xs l h)

@@ -19,16 +19,16 @@ record SameClock (a b : Agent) : Type 0 where
   e : b .elapsed ≡ a .elapsed
   c : b .cycle ≡ a .cycle
 
-fallen-clock : (a : Agent) → SameClock a (enterFallback a)
+fallen-clock : (g : ℕ) (a : Agent) → SameClock a (enterFallback g a)
 unfolding enterFallback
-fallen-clock a = record { t = fallback-others a tcyc refl refl refl; e = refl; c = refl }
+fallen-clock g a = record { t = fallback-others a g tcyc refl refl refl refl; e = refl; c = refl }
 
 limited-clock : (a : Agent) → SameClock a (limited a)
 unfolding limited
 limited-clock a =
-    by-test (SameClock a) (syncLimit a) (λ h. fallen-clock a)
-    (λ h. by-test (SameClock a) (commandLimit a) (λ k. fallen-clock a)
-    (λ k. by-test (SameClock a) (windowLimit a) (λ w. fallen-clock a) (λ w. record { t = refl; e = refl; c = refl })))
+    by-test (SameClock a) (syncLimit a) (λ h. fallen-clock _ a)
+    (λ h. by-test (SameClock a) (commandLimit a) (λ k. fallen-clock _ a)
+    (λ k. by-test (SameClock a) (windowLimit a) (λ w. fallen-clock _ a) (λ w. record { t = refl; e = refl; c = refl })))
 
 module _ (a : Agent) where
   -- the agent that the end of the cycle is judged of

@@ -7,11 +7,12 @@ use Prim.Native.Nat.{ℕ, _+_, _%_}
 use lib.Dec.{eqb, leb}
 use lib.ListN.{length, getD}
 use Rattle.base.specs.Choice.{choose}
-use Rattle.base.proofs.Choosing.{never, choose-false}
+use Rattle.base.proofs.Choosing.{never, by-test, choose-false}
 use Rattle.frame_kinds.specs.declared.kinds.Frame.{Frame}
 use Rattle.rules.specs.Answers.{unsound}
 use Rattle.rules.specs.Calls.{tickCall, frameCall, Call, tick, frame, act}
 use Rattle.rules.specs.Fallback.{released, withheld, enterFallback, enterRun}
+use Rattle.rules.specs.Grounds.{byOrder}
 use Rattle.rules.specs.Fixed.{fits}
 use Rattle.rules.specs.Inputs.{withInputs}
 use Rattle.rules.specs.PowerUp.{powerUp}
@@ -49,7 +50,7 @@ synced-same src cyc a =
 
 written-same : (span : Span) (a : Agent) (add : ℕ) (xs : List ℕ) → Same a (written span a add xs)
 unfolding enterFallback
-written-same Release a add xs = either a (eqb (getD xs 0 0) withheld) (enterFallback a) (storeAll add xs a) refl refl
+written-same Release a add xs = either a (eqb (getD xs 0 0) withheld) (enterFallback byOrder a) (storeAll add xs a) refl refl
 written-same CycleTime a add xs = refl
 written-same Limits a add xs = refl
 written-same Counters a add xs = refl
@@ -64,9 +65,8 @@ counted-same a = refl
 limited-same : (a : Agent) → Same a (limited a)
 unfolding limited enterFallback
 limited-same a =
-    either a (syncLimit a) (enterFallback a) (choose (commandLimit a) (enterFallback a) (choose (windowLimit a) (enterFallback a) a)) refl
-    (either a (commandLimit a) (enterFallback a) (choose (windowLimit a) (enterFallback a) a) refl
-    (either a (windowLimit a) (enterFallback a) a refl refl))
+    by-test (Same a) (syncLimit a) (λ e. refl)
+    (λ e. by-test (Same a) (commandLimit a) (λ e. refl) (λ e. by-test (Same a) (windowLimit a) (λ e. refl) (λ e. refl)))
 
 ended-same : (a : Agent) → Same a (cycleEnded a)
 unfolding cycleEnded

@@ -1,7 +1,7 @@
 -- From power-up on, every call leaves a good agent. Assumes nothing.
 use mathlib.Core.Bool.{_&&_}
 use mathlib.Core.List.{List}
-use mathlib.Core.Path.{_≡_}
+use mathlib.Core.Path.{_≡_, refl}
 use Prim.Native.Nat.{ℕ, _^_, _<_}
 use native.Mathlib.Omega.{arith}
 use borrow.Author.Tests.{eqb-true, eqb-false}
@@ -16,6 +16,7 @@ use Rattle.frame_writing.proofs.Fits.{FittingFrame}
 use Rattle.frame_reading.proofs.Receiving.{appIn}
 use Rattle.rules.specs.Calls.{Call, act}
 use Rattle.rules.specs.Good.{Good, BytesCall}
+use Rattle.rules.specs.Grounds.{byWrongCycle}
 use Rattle.rules.specs.Inputs.{withInputs}
 use Rattle.rules.specs.Marks.{sequenceMarked}
 use Rattle.rules.specs.Refusals.{readOf, isSync, readsSync}
@@ -72,7 +73,7 @@ module _ {a : Agent} (g : GoodTo 254 a) where
 
   good-kind : {f : Frame} {xs : List ℕ} {d : Deed} → FittingFrame f → Bytes xs → KindCase a f xs d → GoodTo 254 (d .agent)
   good-kind {f = f} h b (refuses n e) = good-marks 254 g (row-marks a (isSync f && running a) n e)
-  good-kind h b (fell e) = good-fallen 254 (sequenceMarked a) (good-marks 254 g (sequence-marks a))
+  good-kind h b (fell e) = good-fallen byWrongCycle refl 254 (sequenceMarked a) (good-marks 254 g (sequence-marks a))
   good-kind h b (missed e) = good-missed 254 a g
   good-kind h b (outside p) = good-taken p
   good-kind h b (accepts c) = good-accepted h b c

@@ -12,8 +12,9 @@ use Rattle.base.proofs.Bytes.{bytes-single, bytes-replicate, bytes-written}
 use Rattle.base.proofs.Stored.{stored-before, stored-behind, stored-in}
 use Rattle.rules.specs.Fixed.{isLimit, fixedBy, fits}
 use Rattle.rules.specs.Good.{Good}
+use Rattle.rules.specs.Grounds.{noGround, isGround}
 use Rattle.rules.specs.PowerUp.{settings, powerRegs, powerUp}
-use Rattle.rules.specs.Registers.{macAt, iidAt, typAt, verAt, tidAt, sidAt, outRep, tcyc, statut, cnfRep, cnfCyc, outputsAt, image, lowBytes, lowNumber}
+use Rattle.rules.specs.Registers.{macAt, iidAt, typAt, verAt, tidAt, sidAt, outRep, tcyc, statut, cnfRep, cnfCyc, groundAt, outputsAt, image, lowBytes, lowNumber}
 use Rattle.rules.specs.State.{nobody}
 use Rattle.rules.specs.declared.Fixed.{Fixed}
 use Rattle.rules.proofs.GoodNext.{parts-good}
@@ -64,14 +65,14 @@ module _ (mac iid ver : ℕ) where
   start-registers : ByteRegisters r
   unfolding powerRegs macs iids typs vers sets13 r
   start-registers =
-      registers-stored sets13 0x26 (replicate 90 0xFF) (bytes-replicate 90 0xFF (omega arith))
+      registers-stored sets13 0x27 (replicate 89 0xFF) (bytes-replicate 89 0xFF (omega arith))
       (registers-stored vers tidAt settings (bytes-written settings refl) vers-are)
 
   -- ---- TYP, the settings, and the outputs
   start-typ : getD r typAt 0 ≡ 0x82
   unfolding powerRegs macs iids typs vers sets13 r
   start-typ =
-      stored-before sets13 0x26 (replicate 90 0xFF) typAt (omega arith)
+      stored-before sets13 0x27 (replicate 89 0xFF) typAt (omega arith)
       ∙ stored-before vers tidAt settings typAt (omega arith)
       ∙ stored-before typs verAt (lowBytes 2 ver) typAt (omega arith)
       ∙ stored-in iids typAt (0x82 ∷ []) typAt (omega arith) (omega arith) (omega (arith, iids-are .are-256))
@@ -80,14 +81,14 @@ module _ (mac iid ver : ℕ) where
   start-setting : (j : ℕ) → 0x13 ≤ j → j < 0x1E → getD r j 0 ≡ getD settings (j - 0x13) 0
   unfolding powerRegs macs iids typs vers sets13 r
   start-setting j l h =
-      stored-before sets13 0x26 (replicate 90 0xFF) j (omega arith)
+      stored-before sets13 0x27 (replicate 89 0xFF) j (omega arith)
       ∙ stored-in vers tidAt settings j l h (omega (arith, vers-are .are-256))
 
   start-output : (i : ℕ) → i < image → getD r (outputsAt + i) 0 ≡ 0
   unfolding powerRegs macs iids typs vers sets13 r
   start-output i h =
       let j : ℕ = outputsAt + i in
-      stored-behind sets13 0x26 (replicate 90 0xFF) j (omega (arith, length-replicate {A = ℕ} 90 0xFF))
+      stored-behind sets13 0x27 (replicate 89 0xFF) j (omega (arith, length-replicate {A = ℕ} 89 0xFF))
       ∙ stored-behind vers tidAt settings j (omega arith)
       ∙ stored-behind typs verAt (lowBytes 2 ver) j (omega (arith, length-low 2 ver))
       ∙ stored-behind iids typAt (0x82 ∷ []) j (omega arith)
@@ -95,12 +96,25 @@ module _ (mac iid ver : ℕ) where
       ∙ stored-behind (replicate 256 0) macAt (lowBytes 8 mac) j (omega (arith, length-low 8 mac))
       ∙ getD-replicate 256 j 0 0 (omega arith)
 
+  -- 26h: no ground
+  pub start-ground : getD (powerRegs mac iid ver) groundAt 0 ≡ noGround
+  unfolding powerRegs macs iids typs vers sets13
+  start-ground =
+      stored-before sets13 0x27 (replicate 89 0xFF) groundAt (omega arith)
+      ∙ stored-behind vers tidAt settings groundAt (omega arith)
+      ∙ stored-behind typs verAt (lowBytes 2 ver) groundAt (omega (arith, length-low 2 ver))
+      ∙ stored-behind iids typAt (0x82 ∷ []) groundAt (omega arith)
+      ∙ stored-behind macs iidAt (lowBytes 8 iid) groundAt (omega (arith, length-low 8 iid))
+      ∙ stored-behind (replicate 256 0) macAt (lowBytes 8 mac) groundAt (omega (arith, length-low 8 mac))
+      ∙ getD-replicate 256 groundAt 0 0 (omega arith)
+
   start-sid : lowNumber r sidAt 3 ≡ nobody
   unfolding lowNumber
   start-sid =
       rw (start-setting 0x14 (omega arith) (omega arith), start-setting 0x15 (omega arith) (omega arith), start-setting 0x16 (omega arith) (omega arith))
 
   start-settings : Settings r
+  unfolding r
   start-settings = record {
     t-set = rw (start-setting tcyc (omega arith) (omega arith)) (omega arith);
     n-set = rw (start-setting cnfCyc (omega arith) (omega arith)) (omega arith);
@@ -108,6 +122,7 @@ module _ (mac iid ver : ℕ) where
     rep-is = inr (start-setting outRep (omega arith) (omega arith));
     tid-is = inl (start-setting tidAt (omega arith) (omega arith));
     typ-is = start-typ;
+    ground-is = ap isGround start-ground;
   }
 
   start-good : (fixed : Fixed) → FixedParts fixed → GoodTo 254 (powerUp mac iid ver fixed)

@@ -12,7 +12,8 @@ use Rattle.base.proofs.Outside.{Outside, same-before, same-behind, outside-sets
 use Rattle.base.proofs.Stored.{stored-in, stored-bytes}
 use Rattle.rules.specs.Fallback.{released}
 use Rattle.rules.specs.Fixed.{limitOf}
-use Rattle.rules.specs.Registers.{typAt, tidAt, sidAt, outRep, tcyc, statut, cnfRep, cnfCyc, outputsAt, image, lowNumber}
+use Rattle.rules.specs.Grounds.{isGround}
+use Rattle.rules.specs.Registers.{typAt, tidAt, sidAt, outRep, tcyc, statut, cnfRep, cnfCyc, groundAt, outputsAt, image, lowNumber}
 use Rattle.rules.specs.State.{isHeard, unheard, isMarked, unmarked, nobody, withRegs}
 use Rattle.rules.specs.declared.Agent.{Agent}
 use Rattle.rules.proofs.Parts.{modeBits, Settings, Named, LastIs, Running, ModeParts, PartsTo}
@@ -24,10 +25,11 @@ pub record SameLimits (r q : List ℕ) : Type 0 where
   pub m : getD q cnfRep 0 ≡ getD r cnfRep 0
   pub n : getD q cnfCyc 0 ≡ getD r cnfCyc 0
 
--- and TYP and TID
+-- and TYP, TID and the ground
 pub record SameSettings (r q : List ℕ) : Type 0 where
   pub typ : getD q typAt 0 ≡ getD r typAt 0
   pub tid : getD q tidAt 0 ≡ getD r tidAt 0
+  pub ground : getD q groundAt 0 ≡ getD r groundAt 0
   pub limits : SameLimits r q
 
 abbrev pub SameOutputs : List ℕ → List ℕ → Type 0
@@ -49,36 +51,37 @@ sid-same r q e f g = rw (e, f, g)
 pub sid-before : (r q : List ℕ) → ((j : ℕ) → j < 0x17 → getD q j 0 ≡ getD r j 0) → lowNumber q sidAt 3 ≡ lowNumber r sidAt 3
 sid-before r q low = sid-same r q (low 0x14 (omega arith)) (low 0x15 (omega arith)) (low 0x16 (omega arith))
 
--- all below STATUT, and the limits
+-- all below STATUT, the limits and the ground
 same-from : (r q : List ℕ) → ((j : ℕ) → j < 0x19 → getD q j 0 ≡ getD r j 0) → getD q cnfRep 0 ≡ getD r cnfRep 0
-    → getD q cnfCyc 0 ≡ getD r cnfCyc 0 → SameSettings r q
-same-from r q low m n = record {
+    → getD q cnfCyc 0 ≡ getD r cnfCyc 0 → getD q groundAt 0 ≡ getD r groundAt 0 → SameSettings r q
+same-from r q low m n g = record {
   typ = low 0x10 (omega arith);
   tid = low 0x13 (omega arith);
+  ground = g;
   limits = record { rep = low 0x17 (omega arith); t = low 0x18 (omega arith); m = m; n = n };
 }
 
-pub same-behind-settings : (lo hi : ℕ) (r q : List ℕ) → 0x1C ≤ lo → Outside lo hi r q → SameSettings r q
-same-behind-settings lo hi r q h o =
+pub same-behind-settings : (lo hi : ℕ) (r q : List ℕ) → 0x1C ≤ lo → Outside lo hi r q → getD q groundAt 0 ≡ getD r groundAt 0 → SameSettings r q
+same-behind-settings lo hi r q h o g =
     let low : (j : ℕ) → j < 0x1C → getD q j 0 ≡ getD r j 0 = λ j p. same-before lo hi r q o j (omega arith) in
-    same-from r q (λ j p. low j (omega arith)) (low 0x1A (omega arith)) (low 0x1B (omega arith))
+    same-from r q (λ j p. low j (omega arith)) (low 0x1A (omega arith)) (low 0x1B (omega arith)) g
 
 pub same-but-status : (r q : List ℕ) → Outside 0x19 0x1A r q → SameSettings r q
-same-but-status r q o = same-from r q (λ j h. same-before 0x19 0x1A r q o j h) (o 0x1A tt) (o 0x1B tt)
+same-but-status r q o = same-from r q (λ j h. same-before 0x19 0x1A r q o j h) (o 0x1A tt) (o 0x1B tt) (o groundAt tt)
 
--- 1Ch to 7Fh: AD_REF, SZ_REF, counters, CONF
-pub same-middle : (r q : List ℕ) → Outside 0x1C 0x80 r q → SameFor r q
+-- 1Ch to 25h: AD_REF, SZ_REF, counters, CONF
+pub same-middle : (r q : List ℕ) → Outside 0x1C 0x26 r q → SameFor r q
 same-middle r q o = record {
-  same = same-behind-settings 0x1C 0x80 r q (omega arith) o;
-  sid = sid-before r q (λ j h. same-before 0x1C 0x80 r q o j (omega arith));
+  same = same-behind-settings 0x1C 0x26 r q (omega arith) o (o groundAt tt);
+  sid = sid-before r q (λ j h. same-before 0x1C 0x26 r q o j (omega arith));
   bits = ap (λ (x : ℕ). bitAnd x 0xC0) (o 0x19 tt);
-  outputs = λ i h. same-behind 0x1C 0x80 r q o (outputsAt + i) (omega arith);
+  outputs = λ i h. same-behind 0x1C 0x26 r q o (outputsAt + i) (omega arith);
 }
 
 -- C0h to FFh: inputs
 pub same-inputs : (r q : List ℕ) → Outside 0xC0 0x100 r q → SameFor r q
 same-inputs r q o = record {
-  same = same-behind-settings 0xC0 0x100 r q (omega arith) o;
+  same = same-behind-settings 0xC0 0x100 r q (omega arith) o (o groundAt tt);
   sid = sid-before r q (λ j h. same-before 0xC0 0x100 r q o j (omega arith));
   bits = ap (λ (x : ℕ). bitAnd x 0xC0) (o 0x19 tt);
   outputs = λ i h. same-before 0xC0 0x100 r q o (outputsAt + i) (omega arith);
@@ -107,6 +110,7 @@ settings-kept r q f s =
       rep-is = rw (l .rep) (s .rep-is);
       tid-is = rw (f .tid) (s .tid-is);
       typ-is = f .typ ∙ s .typ-is;
+      ground-is = ap isGround (f .ground) ∙ s .ground-is;
     }
 
 pub running-kept : (r q : List ℕ) (s i l : ℕ) → SameLimits r q → modeBits q ≡ 0x00 → getD r outRep 0 ≡ released

@@ -4,6 +4,7 @@ pub mod MarkSteps
 pub mod Cases
 pub mod ButFor
 pub mod Makes
+pub mod Grounds
 pub mod Refused
 pub mod Rows
 pub mod QuietBits

@@ -9,13 +9,15 @@ use lib.Bits.{bitOr}
 use lib.Dec.{eqb}
 use lib.ListN.{length, replicate}
 use lib.Seq.{length-sets, getD-set-same}
+use Rattle.base.specs.Choice.{choose}
 use Rattle.base.proofs.Choosing.{never}
 use Rattle.base.proofs.Stored.{stored-before}
-use Rattle.rules.specs.Fallback.{withheld, enterFallback}
+use Rattle.rules.specs.Fallback.{withheld, groundAfter, enterFallback}
+use Rattle.rules.specs.Grounds.{byWrongCycle}
 use Rattle.rules.specs.Marks.{counter, lineMarked, formatMarked, sequenceMarked, windowMarked}
 use Rattle.rules.specs.Refusals.{Change, nothing, lineMark, formatMark, sequenceMark, sequenceFall, windowMark, oneTaken, namesMode, namesTaken, namesMark, changed, statusBy, raises, Makes}
-use Rattle.rules.specs.Registers.{outRep, statut, cptSeq, cptFor, outputsAt, image}
-use Rattle.rules.specs.State.{reg, store}
+use Rattle.rules.specs.Registers.{outRep, statut, cptSeq, cptFor, groundAt, outputsAt, image}
+use Rattle.rules.specs.State.{running, reg, store}
 use Rattle.rules.specs.declared.Agent.{Agent}
 use Rattle.rules.proofs.BusTraps.{fallback-clears}
 use Rattle.rules.proofs.ButFor.{but-for, other-stored, fallback-others}
@@ -48,19 +50,36 @@ module _ (a : Agent) (size : length (a .regs) ≡ 256) where
       let x : ℕ = bitOr (reg a statut) 0x02 in
       stored-there cptSeq (counter (reg a cptSeq)) (store statut x a) (omega (arith, size, length-sets (a .regs) statut (x ∷ [])))
 
-  fallen-status : reg (enterFallback a) statut ≡ bitOr (reg a statut) 0x80
-  unfolding enterFallback
-  fallen-status =
-      let marked : Agent = store statut (bitOr (reg a statut) 0x80) a in
-      stored-before (store outRep withheld marked .regs) outputsAt (replicate image 0) statut (omega arith)
-      ∙ other-stored outRep withheld marked statut refl ∙ stored-there statut (bitOr (reg a statut) 0x80) a (omega (arith, size))
+  module _ (g : ℕ) where
+    marked : Agent
+    marked = store statut (bitOr (reg a statut) 0x80) a
 
-  fallen-release : reg (enterFallback a) outRep ≡ withheld
-  unfolding enterFallback
-  fallen-release =
-      let x : ℕ = bitOr (reg a statut) 0x80 in
-      stored-before (store outRep withheld (store statut x a) .regs) outputsAt (replicate image 0) outRep (omega arith)
-      ∙ stored-there outRep withheld (store statut x a) (omega (arith, size, length-sets (a .regs) statut (x ∷ [])))
+    held : Agent
+    held = store outRep withheld marked
+
+    held-size : length (held .regs) ≡ 256
+    unfolding marked held
+    held-size = length-sets (marked .regs) outRep (withheld ∷ []) ∙ length-sets (a .regs) statut (bitOr (reg a statut) 0x80 ∷ []) ∙ size
+
+    below-outputs : (i : ℕ) → i < outputsAt → reg (enterFallback g a) i ≡ reg (store groundAt (groundAfter g a) held) i
+    unfolding marked held enterFallback
+    below-outputs i h = stored-before (store groundAt (groundAfter g a) held .regs) outputsAt (replicate image 0) i h
+
+    fallen-status : reg (enterFallback g a) statut ≡ bitOr (reg a statut) 0x80
+    unfolding marked held
+    fallen-status =
+        below-outputs statut (omega arith) ∙ other-stored groundAt (groundAfter g a) held statut refl
+        ∙ other-stored outRep withheld marked statut refl ∙ stored-there statut (bitOr (reg a statut) 0x80) a (omega (arith, size))
+
+    fallen-release : reg (enterFallback g a) outRep ≡ withheld
+    unfolding marked held
+    fallen-release =
+        let x : ℕ = bitOr (reg a statut) 0x80 in
+        below-outputs outRep (omega arith) ∙ other-stored groundAt (groundAfter g a) held outRep refl
+        ∙ stored-there outRep withheld marked (omega (arith, size, length-sets (a .regs) statut (x ∷ [])))
+
+    pub fallen-ground : reg (enterFallback g a) groundAt ≡ groundAfter g a
+    fallen-ground = below-outputs groundAt (omega arith) ∙ stored-there groundAt (groundAfter g a) held (omega (arith, held-size))
 
 -- a change that names neither mode nor k nor the mark
 only-marks : (c : Change) (a b : Agent) → namesMode c ≡ false → namesTaken c ≡ false → namesMark c ≡ false
@@ -70,6 +89,7 @@ only-marks c a b m t r e h = record {
   counters = h;
   fallback = λ x. never (sym m ∙ x);
   not-released = λ x. never (sym m ∙ x);
+  ground = λ x. never (sym m ∙ x);
   outputs = λ x. never (sym m ∙ x);
   k = λ x. never (sym t ∙ x);
   mark = λ x. never (sym r ∙ x);
@@ -80,17 +100,18 @@ at-counter : (a b : Agent) (j : ℕ) → reg b j ≡ counter (reg a j) → (i : 
 at-counter a b j e i h = subst (λ (k : ℕ). reg b k ≡ counter (reg a k)) (sym (eqb-true i j h)) e
 
 module _ (a : Agent) (size : length (a .regs) ≡ 256) where
-  fell-makes : Makes sequenceFall a (enterFallback (sequenceMarked a))
-  unfolding enterFallback
+  fell-makes : Makes sequenceFall a (enterFallback byWrongCycle (sequenceMarked a))
+  unfolding enterFallback sequenceMarked
   fell-makes =
       let b : Agent = sequenceMarked a in
       let l : length (b .regs) ≡ 256 = but-for a sequenceMark .size ∙ size in
       record {
-        status = fallen-status b l ∙ ap (λ (x : ℕ). bitOr x 0x80) (sequence-status a size);
-        counters = at-counter a (enterFallback b) cptSeq (fallback-others b cptSeq refl refl refl ∙ sequence-counter a size);
+        status = fallen-status b l byWrongCycle ∙ ap (λ (x : ℕ). bitOr x 0x80) (sequence-status a size);
+        counters = at-counter a (enterFallback byWrongCycle b) cptSeq (fallback-others b byWrongCycle cptSeq refl refl refl refl ∙ sequence-counter a size);
         fallback = λ e. (refl, refl);
-        not-released = λ e. fallen-release b l;
-        outputs = λ e. fallback-clears b l;
+        not-released = λ e. fallen-release b l byWrongCycle;
+        ground = λ e. fallen-ground b l byWrongCycle ∙ ap (λ (x : ℕ). choose (running a) byWrongCycle x) (but-for a sequenceMark .registers groundAt refl);
+        outputs = λ e. fallback-clears byWrongCycle b l;
         k = never;
         mark = λ e. refl;
       }
@@ -102,6 +123,7 @@ module _ (a : Agent) (size : length (a .regs) ≡ 256) where
     counters = λ i. never;
     fallback = never;
     not-released = never;
+    ground = never;
     outputs = λ e. never e;
     k = never;
     mark = λ e. refl;
@@ -121,6 +143,7 @@ module _ (a : Agent) (size : length (a .regs) ≡ 256) where
     counters = λ i. never;
     fallback = never;
     not-released = never;
+    ground = never;
     outputs = λ e. never e;
     k = λ e. refl;
     mark = never;

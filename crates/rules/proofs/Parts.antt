@@ -10,7 +10,8 @@ use lib.ListN.{getD}
 use Rattle.rules.specs.Assignments.{assignable}
 use Rattle.rules.specs.Fallback.{released, withheld}
 use Rattle.rules.specs.Fixed.{lightingLimit, doorsLimit, limitOf}
-use Rattle.rules.specs.Registers.{typAt, tidAt, sidAt, outRep, tcyc, statut, cnfRep, cnfCyc, outputsAt, image, lowNumber}
+use Rattle.rules.specs.Grounds.{isGround}
+use Rattle.rules.specs.Registers.{typAt, tidAt, sidAt, outRep, tcyc, statut, cnfRep, cnfCyc, groundAt, outputsAt, image, lowNumber}
 use Rattle.rules.specs.Sources.{holds}
 use Rattle.rules.specs.State.{inRun, inFallback, isHeard, unheard, isMarked, unmarked, nobody}
 use Rattle.rules.specs.declared.Agent.{Agent}
@@ -27,6 +28,7 @@ pub record Settings (r : List ℕ) : Type 0 where
   pub rep-is : (getD r outRep 0 ≡ released) ⊎ (getD r outRep 0 ≡ withheld)
   pub tid-is : (getD r tidAt 0 ≡ 0x8F) ⊎ (assignable (getD r tidAt 0) ≡ true)
   pub typ-is : getD r typAt 0 ≡ 0x82
+  pub ground-is : isGround (getD r groundAt 0) ≡ true
 
 -- the first n of a list, as the recorded concentrators
 pub record Sources (l : List ℕ) (n : ℕ) : Type 0 where

@@ -11,6 +11,7 @@ use lib.Dec.{eqb}
 use Rattle.rules.specs.Answers.{typ, cycle, outOfOrder}
 use Rattle.rules.specs.Calls.{Call}
 use Rattle.rules.specs.Counters.{isCounter, Counter, as-before, written, out-of-sequence, not-served, quietBits}
+use Rattle.rules.specs.Grounds.{byWrongCycle}
 use Rattle.rules.specs.Marks.{counter, lineMarked, formatMarked, sequenceMarked, windowMarked}
 use Rattle.rules.specs.Refusals.{lineMark, formatMark, sequenceMark, windowMark, rowOf, changed}
 use Rattle.rules.specs.Registers.{statut, cptSeq, cptFor}
@@ -107,7 +108,7 @@ module _ (a : Agent) (call : Call) (n : ℕ) where
       by-row (λ c. Keeps a call n (changed c a)) b n (calmly call n (calm-same (a .regs)))
       record { counters = λ i e. as-before (but-for a lineMark .registers i (not-status i e)); bits = line-quiet a }
       format-keeps
-      (λ z. then-calmly (sequence-keeps (inl z)) (calm-fallen (sequenceMarked a)))
+      (λ z. then-calmly (sequence-keeps (inl z)) (calm-fallen (sequenceMarked a) byWrongCycle))
       sequence-keeps
       record { counters = λ i e. as-before (but-for a windowMark .registers i (not-status i e)); bits = window-quiet a }
       (calmly call n (calm-same (a .regs)))

@@ -15,7 +15,8 @@ use Rattle.base.proofs.Choosing.{and-parts}
 use Rattle.rules.specs.Assignments.{assignable}
 use Rattle.rules.specs.Fallback.{released, withheld}
 use Rattle.rules.specs.Fixed.{lightingLimit, doorsLimit, isLimit, limitOf, fits}
-use Rattle.rules.specs.Registers.{typAt, tidAt, sidAt, outRep, tcyc, cnfRep, cnfCyc, outputsAt, image, lowNumber}
+use Rattle.rules.specs.Grounds.{isGround}
+use Rattle.rules.specs.Registers.{typAt, tidAt, sidAt, outRep, tcyc, cnfRep, cnfCyc, groundAt, outputsAt, image, lowNumber}
 use Rattle.rules.specs.Sound.{settingsSound, sourcesSound, countersSound, outputsZero, runSound, fallbackSound, sound}
 use Rattle.rules.specs.Sources.{holds, distinct, below24, isRecorded, sidOf}
 use Rattle.rules.specs.State.{inRun, inFallback, isHeard, unheard, isMarked, unmarked, nobody}
@@ -80,6 +81,9 @@ module _ (a : Agent) where
   abbrev typ : ℕ
   typ = getD r typAt 0
 
+  abbrev ground : ℕ
+  ground = getD r groundAt 0
+
   abbrev sid : ℕ
   sid = lowNumber r sidAt 3
 
@@ -96,8 +100,9 @@ module _ (a : Agent) where
   settings-of : settingsSound a ≡ true → Settings r × FixedParts (a .fixed)
   unfolding settingsSound
   settings-of e =
-      let both = and-parts tests (fits (a .fixed)) e in
-      let w = six-parts (not (eqb t 0)) (not (eqb n 0)) (not (eqb m 0)) repTest tidTest (eqb typ 0x82) (both .0) in
+      let both = and-parts (tests && isGround ground) (fits (a .fixed)) e in
+      let most = and-parts tests (isGround ground) (both .0) in
+      let w = six-parts (not (eqb t 0)) (not (eqb n 0)) (not (eqb m 0)) repTest tidTest (eqb typ 0x82) (most .0) in
       let s : Settings r = record {
         t-set = not-zero t (w .0);
         n-set = not-zero n (w .1);
@@ -105,18 +110,21 @@ module _ (a : Agent) where
         rep-is = either-of (eqb rep released) (eqb rep withheld) (eqb-true rep released) (eqb-true rep withheld) (w .3);
         tid-is = either-of (eqb tid 0x8F) (assignable tid) (eqb-true tid 0x8F) (λ h. h) (w .4);
         typ-is = eqb-true typ 0x82 (w .5);
+        ground-is = most .1;
       } in
       (s, fixed-of (a .fixed) (both .1))
 
   of-settings : Settings r → FixedParts (a .fixed) → settingsSound a ≡ true
   unfolding settingsSound
   of-settings s f =
-      and-true tests (fits (a .fixed))
+      and-true (tests && isGround ground) (fits (a .fixed))
+      (and-true tests (isGround ground)
       (six-true (not (eqb t 0)) (not (eqb n 0)) (not (eqb m 0)) repTest tidTest (eqb typ 0x82)
       (zero-not t (s .t-set)) (zero-not n (s .n-set)) (zero-not m (s .m-set))
       (of-either (eqb rep released) (eqb rep withheld) (eq-eqb rep released) (eq-eqb rep withheld) (s .rep-is))
       (of-either (eqb tid 0x8F) (assignable tid) (eq-eqb tid 0x8F) (λ h. h) (s .tid-is))
       (eq-eqb typ 0x82 (s .typ-is)))
+      (s .ground-is))
       (of-fixed (a .fixed) f)
 
   -- ---- the recorded, and the SID

@@ -1,6 +1,6 @@
 -- A tick makes a good agent of a good one. Between counting and the cycle's end e may be 255. Assumes nothing.
 use mathlib.Core.Path.{_≡_, refl, _∙_}
-use mathlib.Core.Bool.{false}
+use mathlib.Core.Bool.{true, false}
 use mathlib.Core.List.{List}
 use mathlib.Core.Logic.{inl, inr, ⊎-elim}
 use Prim.Native.Nat.{ℕ, _+_, _*_}
@@ -9,6 +9,7 @@ use borrow.Author.Tests.{leb-false, eq-eqb, ne-eqb}
 use lib.Dec.{leb}
 use Rattle.base.proofs.Choosing.{by-test, choose-false, and-rest}
 use Rattle.rules.specs.Fallback.{enterFallback}
+use Rattle.rules.specs.Grounds.{bySyncSilence, byCommandSilence, byWindow, isGround}
 use Rattle.rules.specs.Registers.{tcyc}
 use Rattle.rules.specs.State.{inRun, unheard, running, tOf, nOf, mOf}
 use Rattle.rules.specs.Tick.{counted, syncLimit, commandLimit, windowLimit, limited, cycleEnded, ticked}
@@ -50,16 +51,16 @@ module _ (a : Agent) (g : GoodTo 254 a) where
       let p = g .parts in
       good-counting 254 255 a g (p .k-most) (omega (arith, p .e-most)) (p .last-is) (p .heard-is) (p .mark-is) (counted-mode one two)
 
-  fallen : GoodTo 255 (enterFallback (counted a))
+  fallen : (ground : ℕ) → isGround ground ≡ true → GoodTo 255 (enterFallback ground (counted a))
   unfolding counted
-  fallen = good-fallen-at 254 255 a (a .elapsed + 1) (counted a .silence) (counted a .idle) (omega (arith, g .parts .e-most)) g
+  fallen ground h = good-fallen-at ground h 254 255 a (a .elapsed + 1) (counted a .silence) (counted a .idle) (omega (arith, g .parts .e-most)) g
 
   good-limited : GoodTo 255 (limited (counted a))
   unfolding limited counted
   good-limited =
-      by-test (GoodTo 255) (syncLimit (counted a)) (λ h. fallen)
-      (λ one. by-test (GoodTo 255) (commandLimit (counted a)) (λ h. fallen)
-      (λ two. by-test (GoodTo 255) (windowLimit (counted a)) (λ h. fallen) (λ three. good-counted one two)))
+      by-test (GoodTo 255) (syncLimit (counted a)) (λ h. fallen bySyncSilence refl)
+      (λ one. by-test (GoodTo 255) (commandLimit (counted a)) (λ h. fallen byCommandSilence refl)
+      (λ two. by-test (GoodTo 255) (windowLimit (counted a)) (λ h. fallen byWindow refl) (λ three. good-counted one two)))
 
 good-cycle-end : (a : Agent) → GoodTo 255 a → GoodTo 254 (cycleEnded a)
 unfolding cycleEnded

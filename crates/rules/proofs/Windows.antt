@@ -2,7 +2,7 @@
 -- marked end of the cycle does. Assumes nothing.
 use mathlib.Core.Bool.{Bool, true, false, not, _&&_, _||_}
 use mathlib.Core.List.{[], _∷_, map}
-use mathlib.Core.Path.{_≡_, refl, _∙_}
+use mathlib.Core.Path.{_≡_, refl, ap, _∙_}
 use Prim.Native.Nat.{ℕ, _+_, _%_, _≤_, _<_}
 use native.Mathlib.Omega.{arith}
 use borrow.Author.Tests.{eq-eqb, ne-eqb, le-leb, lt-leb}
@@ -10,11 +10,12 @@ use lib.Dec.{eqb, leb}
 use Rattle.base.proofs.Choosing.{by-test, choose-true, choose-false}
 use Rattle.rules.specs.Answers.{cycle, outsideWindow}
 use Rattle.rules.specs.Fallback.{released, enterFallback, enterRun}
+use Rattle.rules.specs.Grounds.{byWrongCycle, byWindow}
 use Rattle.rules.specs.Marks.{sequenceMarked, windowMarked}
 use Rattle.rules.specs.Registers.{outRep}
 use Rattle.rules.specs.Replies.{does, syncReply}
 use Rattle.rules.specs.Sources.{isRecorded}
-use Rattle.rules.specs.State.{inRun, isMarked, unmarked, nobody, running, reg, tOf}
+use Rattle.rules.specs.State.{inRun, inFallback, isMarked, unmarked, nobody, running, reg, tOf}
 use Rattle.rules.specs.Sync.{isRepeat, cycleFits, heardSync, synced, onSync}
 use Rattle.rules.specs.Tick.{syncLimit, commandLimit, windowLimit, limited}
 use Rattle.rules.specs.Window.{width, inWindow}
@@ -68,7 +69,7 @@ module _ (port : ℕ) (a : Agent) (src cyc : ℕ) (known : (eqb src nobody || no
   any-time e = simp (known, fresh, e)
 
   -- a wrong cycle is 12, in the window or not
-  pub cycle-first : running a ≡ true → cycleFits a cyc ≡ false → onSync port a src cyc ≡ does cycle (enterFallback (sequenceMarked a))
+  pub cycle-first : running a ≡ true → cycleFits a cyc ≡ false → onSync port a src cyc ≡ does cycle (enterFallback byWrongCycle (sequenceMarked a))
   unfolding onSync
   cycle-first e f = simp (known, fresh, e, f)
 
@@ -87,9 +88,9 @@ module _ (port : ℕ) (a : Agent) (src cyc : ℕ) (known : (eqb src nobody || no
       go false e = any-time e
 
 -- ---- the mark
-pub fallback-unmarks : (a : Agent) → enterFallback a .mark ≡ unmarked
+pub fallback-unmarks : (g : ℕ) (a : Agent) → enterFallback g a .mark ≡ unmarked
 unfolding enterFallback
-fallback-unmarks a = refl
+fallback-unmarks g a = refl
 
 pub sync-unmarks : (a : Agent) (src cyc : ℕ) → synced src cyc a .mark ≡ unmarked
 unfolding synced heardSync enterRun
@@ -100,9 +101,9 @@ unfolding windowMarked
 missed-marks a = refl
 
 -- a marked end of the cycle in RUN is fallback
-pub marked-end : (a : Agent) → a .mode ≡ inRun → a .mark ≡ isMarked → tOf a ≤ a .elapsed → limited a ≡ enterFallback a
-unfolding limited
+pub marked-end : (a : Agent) → a .mode ≡ inRun → a .mark ≡ isMarked → tOf a ≤ a .elapsed → limited a .mode ≡ inFallback
+unfolding limited enterFallback
 marked-end a run mark end =
-    by-test (λ (b : Agent). b ≡ enterFallback a) (syncLimit a) (λ e. refl)
-    (λ e. by-test (λ (b : Agent). b ≡ enterFallback a) (commandLimit a) (λ f. refl)
-    (λ f. choose-true {b = windowLimit a} _ _ (rw (run, mark) (le-leb (tOf a) (a .elapsed) end))))
+    by-test (λ (b : Agent). b .mode ≡ inFallback) (syncLimit a) (λ e. refl)
+    (λ e. by-test (λ (b : Agent). b .mode ≡ inFallback) (commandLimit a) (λ f. refl)
+    (λ f. ap (λ (b : Agent). b .mode) (choose-true {b = windowLimit a} (enterFallback byWindow a) a (rw (run, mark) (le-leb (tOf a) (a .elapsed) end)))))

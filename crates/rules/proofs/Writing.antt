@@ -1,5 +1,5 @@
 -- An accepted write makes a good agent of a good one, span by span. Assumes nothing.
-use mathlib.Core.Path.{_≡_, sym, ap, _∙_}
+use mathlib.Core.Path.{_≡_, refl, sym, ap, _∙_}
 use mathlib.Core.Bool.{true, not, _&&_}
 use mathlib.Core.List.{List}
 use mathlib.Core.Logic.{inl, inr}
@@ -18,7 +18,8 @@ use Rattle.base.proofs.Outside.{Outside, outside-sets, same-before, same-behind
 use Rattle.base.proofs.Stored.{stored-at}
 use Rattle.base.proofs.Choosing.{never}
 use Rattle.rules.specs.Fallback.{released, withheld}
-use Rattle.rules.specs.Registers.{typAt, tidAt, outRep, tcyc, statut, cnfRep, cnfCyc, outputsAt}
+use Rattle.rules.specs.Grounds.{byOrder, isGround}
+use Rattle.rules.specs.Registers.{typAt, tidAt, outRep, tcyc, statut, cnfRep, cnfCyc, groundAt, outputsAt}
 use Rattle.rules.specs.State.{inRun, inFallback, running, withRegs, withIdle}
 use Rattle.rules.specs.Writes.{allowed, written}
 use Rattle.rules.specs.declared.Agent.{Agent}
@@ -93,6 +94,7 @@ module _ (a : Agent) (g : GoodTo 254 a) (add : ℕ) (xs : List ℕ) (b : Bytes x
         rep-is = inl rep;
         tid-is = rw (o tidAt tt) (s .tid-is);
         typ-is = o typAt tt ∙ s .typ-is;
+        ground-is = ap isGround (o groundAt tt) ∙ s .ground-is;
       } record {
         mode-is = g .parts .by-mode .mode-is;
         in-run = λ m. let y = g .parts .by-mode .in-run m in record {
@@ -119,6 +121,7 @@ module _ (a : Agent) (g : GoodTo 254 a) (add : ℕ) (xs : List ℕ) (b : Bytes x
         rep-is = rw (outside-sets 0x18 0x1E r add xs l h outRep tt) (s .rep-is);
         tid-is = rw (o tidAt tt) (s .tid-is);
         typ-is = o typAt tt ∙ s .typ-is;
+        ground-is = ap isGround (o groundAt tt) ∙ s .ground-is;
       } record {
         mode-is = inr rest;
         in-run = λ e. absurd (omega (arith, e, rest));
@@ -155,7 +158,7 @@ module _ (a : Agent) (g : GoodTo 254 a) (add : ℕ) (xs : List ℕ) (b : Bytes x
   unfolding r q z s
   good-outputs l h ok =
       let o : Outside 0x80 0xC0 r q = outside-sets 0x80 0xC0 r add xs l h in
-      let f : SameSettings r q = same-behind-settings 0x80 0xC0 r q (omega arith) o in
+      let f : SameSettings r q = same-behind-settings 0x80 0xC0 r q (omega arith) o (o groundAt tt) in
       let run : a .mode ≡ inRun = eqb-true (a .mode) inRun ok in
       let y = g .parts .by-mode .in-run run in
       rewritten a g q 0 z (λ j k. same-before 0x80 0xC0 r q o j (omega arith)) (settings-kept r q f s) record {
@@ -169,7 +172,7 @@ module _ (a : Agent) (g : GoodTo 254 a) (add : ℕ) (xs : List ℕ) (b : Bytes x
 module _ (a : Agent) (g : GoodTo 254 a) (add : ℕ) (xs : List ℕ) (b : Bytes xs) where
   release : 1 ≤ length xs → 0x17 ≤ add → add + length xs ≤ 0x18 → allowed span.Release a add xs ≡ true → GoodTo 254 (written span.Release a add xs)
   release some l h ok =
-      by-test (GoodTo 254) (eqb (getD xs 0 0) withheld) (λ e. good-fallen 254 a g)
+      by-test (GoodTo 254) (eqb (getD xs 0 0) withheld) (λ e. good-fallen byOrder refl 254 a g)
       (λ e. good-released a g add xs b some (omega arith) h
       (or-cases (eqb (getD xs 0 0) released) (eqb (getD xs 0 0) withheld) ok (eqb-true (getD xs 0 0) released) (λ f. never (sym e ∙ f))))
 

@@ -3,6 +3,7 @@ pub mod Registers
 pub mod State
 pub mod Fixed
 pub mod PowerUp
+pub mod Grounds
 pub mod Fallback
 pub mod Window
 pub mod Tick

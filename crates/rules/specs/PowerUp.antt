@@ -12,7 +12,8 @@ use Rattle.rules.specs.declared.Fixed.{Fixed}
 abbrev pub settings : List ℕ
 settings = 0x8F ∷ 0xFF ∷ 0xFF ∷ 0xFF ∷ 0xAA ∷ 0xFF ∷ 0x80 ∷ 0x05 ∷ 0x02 ∷ 0x80 ∷ 0x08 ∷ []
 
--- all 256 registers start at zero, then: MAC, IID, TYP 82h and VER, the settings, 26h to 7Fh = FFh (90 bytes)
+-- all 256 registers start at zero, then: MAC, IID, TYP 82h and VER, the settings, 27h to 7Fh = FFh (89 bytes); 26h stays 0, no
+-- ground
 unfoldable pub powerRegs : ℕ → ℕ → ℕ → List ℕ
 powerRegs mac iid ver =
     sets
@@ -25,7 +26,7 @@ powerRegs mac iid ver =
     typAt (0x82 ∷ []))
     verAt (lowBytes 2 ver))
     tidAt settings)
-    0x26 (replicate 90 0xFF)
+    0x27 (replicate 89 0xFF)
 
 -- fallback, unheard, no mark, counters 0, no source; with what is fixed
 unfoldable pub powerUp : ℕ → ℕ → ℕ → Fixed → Agent

@@ -16,10 +16,11 @@ use Rattle.frame_forms.specs.declared.Read.{Read}
 use Rattle.frame_forms.specs.declared.Read.the-variants.{Valid, Kind, Form, Check}
 use Rattle.rules.specs.Answers.{bodyLength, fcs, reserved, elsewhere, typ, form, crc, source, addressee, cycle, repeat, outOfOrder, tooMany, outsideRules, outsideWindow}
 use Rattle.rules.specs.Calls.{Call, tick, frame, leftIn}
-use Rattle.rules.specs.Fallback.{withheld, enterFallback}
+use Rattle.rules.specs.Fallback.{withheld, groundAfter, enterFallback}
 use Rattle.rules.specs.FrameCall.{agentRead}
+use Rattle.rules.specs.Grounds.{byWrongCycle}
 use Rattle.rules.specs.Marks.{counter, lineMarked, formatMarked, sequenceMarked, windowMarked}
-use Rattle.rules.specs.Registers.{outRep, statut, cptSeq, cptFor, outputsAt, image}
+use Rattle.rules.specs.Registers.{outRep, statut, cptSeq, cptFor, groundAt, outputsAt, image}
 use Rattle.rules.specs.Replies.{Outcome}
 use Rattle.rules.specs.State.{inFallback, isMarked, unmarked, running, reg, withTaken}
 use Rattle.rules.specs.declared.Agent.{Agent}
@@ -75,7 +76,7 @@ changed nothing a = a
 changed lineMark a = lineMarked a
 changed formatMark a = formatMarked a
 changed sequenceMark a = sequenceMarked a
-changed sequenceFall a = enterFallback (sequenceMarked a)
+changed sequenceFall a = enterFallback byWrongCycle (sequenceMarked a)
 changed windowMark a = windowMarked a
 changed oneTaken a = withTaken (a .taken + 1) a
 
@@ -87,7 +88,7 @@ namesRegister nothing i = false
 namesRegister lineMark i = eqb i statut
 namesRegister formatMark i = eqb i statut || eqb i cptFor
 namesRegister sequenceMark i = eqb i statut || eqb i cptSeq
-namesRegister sequenceFall i = eqb i statut || (eqb i cptSeq || (eqb i outRep || within 0x80 0xBF i))
+namesRegister sequenceFall i = eqb i statut || (eqb i cptSeq || (eqb i outRep || (eqb i groundAt || within 0x80 0xBF i)))
 namesRegister windowMark i = eqb i statut
 namesRegister oneTaken i = false
 
@@ -164,6 +165,7 @@ pub record Makes (row : Change) (a b : Agent) : Type 0 where
   pub counters : (i : ℕ) → raises row i ≡ true → reg b i ≡ counter (reg a i)
   pub fallback : namesMode row ≡ true → (b .mode ≡ inFallback) × (b .idle ≡ 0)
   pub not-released : namesMode row ≡ true → reg b outRep ≡ withheld
+  pub ground : namesMode row ≡ true → reg b groundAt ≡ groundAfter byWrongCycle a
   pub outputs : namesMode row ≡ true → (i : ℕ) → i < image → reg b (outputsAt + i) ≡ 0
   pub k : namesTaken row ≡ true → b .taken ≡ a .taken + 1
   -- set by 22, cleared with fallback

@@ -52,6 +52,10 @@ cptFor = 0x24
 abbrev pub conf : ℕ
 conf = 0x25
 
+-- why the module last left RUN (document 02)
+abbrev pub groundAt : ℕ
+groundAt = 0x26
+
 abbrev pub outputsAt : ℕ
 outputsAt = 0x80
 

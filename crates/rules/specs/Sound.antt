@@ -8,16 +8,17 @@ use lib.ListN.{getD}
 use Rattle.rules.specs.Assignments.{assignable}
 use Rattle.rules.specs.Fallback.{released, withheld}
 use Rattle.rules.specs.Fixed.{limitOf, fits}
-use Rattle.rules.specs.Registers.{typAt, tidAt, outRep, statut, outputsAt, image}
+use Rattle.rules.specs.Grounds.{isGround}
+use Rattle.rules.specs.Registers.{typAt, tidAt, outRep, statut, groundAt, outputsAt, image}
 use Rattle.rules.specs.Sources.{distinct, below24, isRecorded, sidOf}
 use Rattle.rules.specs.State.{inRun, inFallback, isHeard, unheard, isMarked, unmarked, nobody, reg, tOf, nOf, mOf}
 use Rattle.rules.specs.declared.Agent.{Agent}
 
--- t, n, m are not 0, OUT_REP is 55h or AAh, TID is 8Fh or assignable, TYP is 82h; what is fixed at power-up fits
+-- t, n, m are not 0, OUT_REP is 55h or AAh, TID is 8Fh or assignable, TYP is 82h, 26h is 0 to 5; what is fixed at power-up fits
 unfoldable pub settingsSound : Agent → Bool
 settingsSound a =
     not (eqb (tOf a) 0) && not (eqb (nOf a) 0) && not (eqb (mOf a) 0) && (eqb (reg a outRep) released || eqb (reg a outRep) withheld)
-    && (eqb (reg a tidAt) 0x8F || assignable (reg a tidAt)) && eqb (reg a typAt) 0x82 && fits (a .fixed)
+    && (eqb (reg a tidAt) 0x8F || assignable (reg a tidAt)) && eqb (reg a typAt) 0x82 && isGround (reg a groundAt) && fits (a .fixed)
 
 -- at most 8 are recorded, all distinct, each below FFFFFFh; nobody is recorded exactly when the SID is FFFFFFh
 unfoldable pub sourcesSound : Agent → Bool

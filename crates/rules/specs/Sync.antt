@@ -5,6 +5,7 @@ use lib.Dec.{eqb}
 use Rattle.base.specs.Choice.{choose}
 use Rattle.rules.specs.Answers.{source, cycle, repeat, outsideWindow}
 use Rattle.rules.specs.Fallback.{released, enterFallback, enterRun}
+use Rattle.rules.specs.Grounds.{byWrongCycle}
 use Rattle.rules.specs.Marks.{sequenceMarked, windowMarked}
 use Rattle.rules.specs.Registers.{outRep}
 use Rattle.rules.specs.Replies.{does, syncReply}
@@ -35,6 +36,6 @@ unfoldable pub onSync : ℕ → Agent → ℕ → ℕ → Deed
 onSync port a src cyc =
     choose (eqb src nobody || not (isRecorded a src)) (does source a)
     (choose (isRepeat a src cyc) (does repeat a)
-    (choose (running a && not (cycleFits a cyc)) (does cycle (enterFallback (sequenceMarked a)))
+    (choose (running a && not (cycleFits a cyc)) (does cycle (enterFallback byWrongCycle (sequenceMarked a)))
     (choose (running a && not (inWindow a cyc)) (does outsideWindow (windowMarked a))
     (syncReply port (synced src cyc a) src cyc))))

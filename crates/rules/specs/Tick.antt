@@ -4,6 +4,7 @@ use Prim.Native.Nat.{ℕ, _+_, _*_, _%_}
 use lib.Dec.{leb, ltb}
 use Rattle.base.specs.Choice.{choose}
 use Rattle.rules.specs.Fallback.{enterFallback}
+use Rattle.rules.specs.Grounds.{bySyncSilence, byCommandSilence, byWindow}
 use Rattle.rules.specs.State.{unheard, running, tOf, nOf, mOf, withClock, withCycle}
 use Rattle.rules.specs.Window.{marked}
 use Rattle.rules.specs.declared.Agent.{Agent}
@@ -32,12 +33,12 @@ cycleOver a = leb (tOf a) (a .elapsed)
 abbrev pub windowLimit : Agent → Bool
 windowLimit a = running a && marked a && cycleOver a
 
--- fallback at the sync limit, in either mode, or else at the command limit, or else at that of the window
+-- fallback at the sync limit, in either mode, or else at the command limit, or else at that of the window; the first is the ground
 unfoldable pub limited : Agent → Agent
 limited a =
-    choose (syncLimit a) (enterFallback a)
-    (choose (commandLimit a) (enterFallback a)
-    (choose (windowLimit a) (enterFallback a) a))
+    choose (syncLimit a) (enterFallback bySyncSilence a)
+    (choose (commandLimit a) (enterFallback byCommandSilence a)
+    (choose (windowLimit a) (enterFallback byWindow a) a))
 
 -- at the end of the cycle c becomes c + 1 modulo 256, unheard, e = 0, k = 0
 unfoldable pub cycleEnded : Agent → Agent

@@ -8,6 +8,7 @@ use lib.Seq.{sets}
 use Rattle.base.specs.Choice.{choose, within}
 use Rattle.rules.specs.Answers.{accepted, outsideRules}
 use Rattle.rules.specs.Fallback.{released, withheld, enterFallback}
+use Rattle.rules.specs.Grounds.{byOrder}
 use Rattle.rules.specs.Registers.{cnfRep, cnfCyc}
 use Rattle.rules.specs.Replies.{does}
 use Rattle.rules.specs.State.{running, withIdle, storeAll}
@@ -55,7 +56,7 @@ allowed Outside a add xs = false
 
 -- AAh to 17h means fallback; an output write sets q to 0
 abbrev pub written : Span → Agent → ℕ → List ℕ → Agent
-written Release a add xs = choose (eqb (getD xs 0 0) withheld) (enterFallback a) (storeAll add xs a)
+written Release a add xs = choose (eqb (getD xs 0 0) withheld) (enterFallback byOrder a) (storeAll add xs a)
 written CycleTime a add xs = storeAll add xs a
 written Limits a add xs = storeAll add xs a
 written Counters a add xs = storeAll add xs a

@@ -8,6 +8,7 @@ use lib.ListN.{length, getD, take, drop}
 use Rattle.rules.specs.Calls.{Call}
 use Rattle.rules.specs.declared.Agent.{Agent}
 use Rattle.demand3.specs.Claim.{Holds}
+use Rattle.demand3.specs.Grounds.{Grounded}
 use Rattle.demand3.specs.History.{History, powerOn, _▸_, Seen, seenOf, callEntry}
 use Rattle.demand3.specs.Numbers.{isLimit}
 use Rattle.demand3.specs.Reached.{Reached}
@@ -31,11 +32,12 @@ logged h [] l = h
 logged h (x ∷ xs) l =
     logged (h ▸ callEntry x (getD l recordSize 0) (seenIn l) (seenIn (drop recordSize l))) xs (drop recordSize l)
 
--- a run of the code over the whole list from power-up: demand 3 and the sharper statements hold of the history that it wrote
--- down, and the agent that it returned is the one at its end
+-- a run of the code over the whole list from power-up: demand 3, the sharper statements and that of register 26h hold of the
+-- history that it wrote down, and the agent that it returned is the one at its end
 pub record Ran (calls : List Call) (a : Agent) (log : List ℕ) : Type 0 where
   pub holds : Holds (logged powerOn calls log)
   pub sharper : Sharper (logged powerOn calls log)
+  pub grounded : Grounded (logged powerOn calls log)
   pub reached : Reached (logged powerOn calls log) a
 
 -- this holds for a limit of requests that is 16 or 64 and every list of calls that the bytes s stand for, with a reply buffer

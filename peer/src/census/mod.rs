@@ -3,17 +3,19 @@
 
 mod bad;
 mod bodies;
+mod grounds;
 mod list;
 mod ticks;
 mod windows;
 mod writes;
 
+pub use grounds::CHANGED;
 pub use list::{of_list, ListCensus};
 
 use crate::body;
 use crate::frame::{self, com, Frame};
 use crate::module::registers::{CONF, CPT_FOR, CPT_SEQ, SILENT};
-use crate::module::{Agent, Mode, MARKED};
+use crate::module::{Agent, Mode};
 use crate::script::{parse, Line, Lines, Played, Player};
 use std::collections::{BTreeMap, HashMap};
 use std::fmt;
@@ -81,7 +83,7 @@ impl Census {
         }
     }
 
-    fn tick(&mut self, inputs: &[u8]) -> Vec<&'static str> {
+    fn tick(&mut self, inputs: &[u8]) -> Vec<String> {
         let before = self.player.agent.clone();
         // A module that was powered up stays sound.
         let answer = self.player.agent.tick(inputs);
@@ -115,7 +117,7 @@ impl Census {
         let after = self.player.agent.clone();
         self.frame(port, &body, &before, played.answer);
         self.held_back(&before, &after, &played);
-        self.modes(&before, &after, &played);
+        self.modes(&before, &after);
         self.syncs(&before, &after, &played);
         self.replies(&played);
     }
@@ -167,6 +169,10 @@ impl Census {
                 self.add(&format!("{place}: {answer} in {:?}", before.mode));
             }
         }
+        if answer == 0 {
+            let again = grounds::of_request(frame, before, &self.player.agent);
+            again.iter().for_each(|what| self.add(what));
+        }
         let (Frame::SafeRead { head, .. } | Frame::SafeWrite { head, .. }) = *frame else {
             return;
         };
@@ -197,16 +203,12 @@ impl Census {
         }
     }
 
-    fn modes(&mut self, before: &Agent, after: &Agent, played: &Played) {
-        let why = match (before.mode, after.mode, played.answer) {
-            (Mode::Fallback, Mode::Run, _) => return self.add("entered RUN"),
-            (Mode::Run, Mode::Fallback, 12) => "wrong cycle",
-            (Mode::Run, Mode::Fallback, _) => "order",
-            _ => return,
-        };
-        self.add(&format!("left RUN: {why}"));
-        if before.mark == MARKED {
-            self.add(&format!("left RUN: {why}, while marked"));
+    fn modes(&mut self, before: &Agent, after: &Agent) {
+        if before.mode == Mode::Fallback && after.mode == Mode::Run {
+            self.add("entered RUN");
+        }
+        for what in grounds::of_frame(before, after) {
+            self.add(&what);
         }
     }
 
@@ -241,7 +243,7 @@ impl Census {
             return;
         };
         let reply = frame::read(inner).expect("a reply is a right frame");
-        self.add(match reply.frame {
+        let what = match reply.frame {
             Frame::SafeResponse { com, .. } => match com {
                 com::SAFE_TO_SYNC => "reply: to a sync",
                 com::SAFE_TO_READ => "reply: to a read",
@@ -249,7 +251,11 @@ impl Census {
                 _ => "reply: error 55h",
             },
             _ => "reply: acknowledgement",
-        });
+        };
+        self.add(what);
+        if let Some(ground) = grounds::in_reply(&reply.frame, &reply.data) {
+            self.add(&format!("{what}, 26h {ground}"));
+        }
         if played.reply.len() > 280 {
             self.add("reply: over 280 bytes");
         }

@@ -1,29 +1,16 @@
-//! What one tick brings up: the limits on silence, the tick before each, the ends of cycles, the mark.
+//! What one tick brings up: the grounds of fallback, the tick before each silence, the ends of cycles.
 
+use super::grounds;
 use crate::module::registers::OUT_REP;
-use crate::module::{Agent, Mode, MARKED};
+use crate::module::{Agent, Mode};
 
-pub fn events(before: &Agent, after: &Agent) -> Vec<&'static str> {
+pub fn events(before: &Agent, after: &Agent) -> Vec<String> {
     let (ran, runs) = (before.mode == Mode::Run, after.mode == Mode::Run);
     let left = ran && !runs;
-    let no_sync = after.since_sync as u32 >= after.sync_limit();
-    let no_output = before.since_output + 1 >= before.output_limit();
-    let marked = before.mark == MARKED && after.cycle != before.cycle;
     let ended = before.registers[OUT_REP] != after.registers[OUT_REP];
     let sync_next = after.since_sync as u32 + 1 >= after.sync_limit();
     let output_next = after.since_output + 1 >= after.output_limit();
-    [
-        ("left RUN: sync silence", left && no_sync),
-        (
-            "left RUN: sync silence, at a marked clock end",
-            left && no_sync && marked,
-        ),
-        ("left RUN: command silence", left && !no_sync && no_output),
-        (
-            "left RUN: command silence, at a marked clock end",
-            left && !no_sync && no_output && marked,
-        ),
-        ("left RUN: mark", left && !no_sync && !no_output),
+    let others = [
         ("pending release ended by silence", !left && ended),
         ("RUN, one tick before sync silence", runs && sync_next),
         ("RUN, one tick before command silence", runs && output_next),
@@ -32,8 +19,9 @@ pub fn events(before: &Agent, after: &Agent) -> Vec<&'static str> {
             "wrap in RUN by the clock",
             ran && after.cycle < before.cycle,
         ),
-    ]
-    .into_iter()
-    .filter_map(|(what, came)| came.then_some(what))
-    .collect()
+    ];
+    let came = others.into_iter().filter(|&(_, came)| came);
+    let mut events = grounds::of_tick(before, after);
+    events.extend(came.map(|(what, _)| what.to_string()));
+    events
 }

@@ -1,6 +1,7 @@
 //! Where a write lies, against the spans that can be written.
 
 use crate::frame::Frame;
+use crate::module::registers::GROUND;
 
 /// First and last register of each span.
 const SPANS: [(usize, usize); 6] = [
@@ -12,7 +13,7 @@ const SPANS: [(usize, usize); 6] = [
     (0x80, 0xBF),
 ];
 
-/// A place for each span whose edges the write meets.
+/// A place for each span whose edges the write meets, and one if it covers 26h.
 pub fn places(frame: &Frame) -> Vec<String> {
     let Frame::SafeWrite { span, .. } = *frame else {
         return Vec::new();
@@ -22,7 +23,16 @@ pub fn places(frame: &Frame) -> Vec<String> {
         .into_iter()
         .filter_map(|edges| Some((edges, place(edges, first, length)?)))
         .map(|((low, high), place)| format!("write {low:02X}h to {high:02X}h: {place}"))
+        .chain(over_ground(first, length))
         .collect()
+}
+
+fn over_ground(first: usize, length: usize) -> Option<String> {
+    let covered = (first..first + length).contains(&(GROUND as usize));
+    covered.then(|| match first {
+        0x24.. => format!("write over 26h from {first:02X}h"),
+        _ => "write over 26h from below 24h".to_string(),
+    })
 }
 
 fn place((low, high): (usize, usize), first: usize, length: usize) -> Option<&'static str> {

@@ -1,8 +1,10 @@
 //! Self checks: stored vectors, published and proved values, round trips of every kind, the
 //! cases on the bench, what the host may do wrong, the limit of requests, the tick call, the window
-//! of syncs, the traps, the script and the frame program.
+//! of syncs, the ground of fallback, the traps, the script and the frame program.
 
 mod bench;
+mod ground;
+mod history;
 mod host;
 mod limit;
 mod lists;
@@ -53,6 +55,8 @@ pub fn run() -> Tally {
     limit::run(&mut tally);
     tick::run(&mut tally);
     window::run(&mut tally);
+    ground::run(&mut tally);
+    history::run(&mut tally);
     script::run(&mut tally);
     spelling::run(&mut tally);
     lists::run(&mut tally);

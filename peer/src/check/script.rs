@@ -5,6 +5,7 @@ use super::module::Bench;
 use super::Tally;
 use crate::census;
 use crate::generate;
+use crate::module::ground::Ground;
 use crate::module::Mode;
 use crate::script::{self, Player, Program};
 
@@ -45,13 +46,17 @@ const FORMS: [(&str, &str); 24] = [
 /// How often every answer must come up in 6,000 lines, at least.
 const OFTEN: usize = 50;
 
-const IN_A_SCRIPT: [(&str, usize); 20] = [
+const IN_A_SCRIPT: [(&str, usize); 24] = [
     ("entered RUN", 50),
     ("left RUN: sync silence", 10),
     ("left RUN: command silence", 10),
     ("left RUN: wrong cycle", 10),
     ("left RUN: order", 10),
-    ("left RUN: mark", 5),
+    ("left RUN: window", 5),
+    ("left RUN: sync silence, command silence too", 2),
+    ("left RUN: sync silence, window too", 2),
+    ("left RUN: command silence, window too", 2),
+    ("left RUN: sync silence, command silence and window too", 2),
     ("mark healed", 5),
     ("second 22 while marked", 5),
     ("takeover in RUN", 10),
@@ -68,7 +73,7 @@ const IN_A_SCRIPT: [(&str, usize); 20] = [
     ("inputs: left RUN: command silence", 5),
 ];
 
-const IN_A_LONG_SCRIPT: [(&str, usize); 55] = [
+const IN_A_LONG_SCRIPT: [(&str, usize); 59] = [
     ("frame before the first SID", 20),
     ("recorded", 8),
     ("takeover in fallback", 10),
@@ -103,13 +108,17 @@ const IN_A_LONG_SCRIPT: [(&str, usize); 55] = [
     ("inputs: end of a cycle in RUN", 100),
     ("inputs: pending release ended by silence", 10),
     ("inputs, six in a row", 4),
-    ("left RUN: sync silence, at a marked clock end", 10),
-    ("left RUN: command silence, at a marked clock end", 3),
+    ("left RUN: sync silence, command silence too", 10),
+    ("left RUN: sync silence, window too", 10),
+    ("left RUN: command silence, window too", 5),
+    ("left RUN: sync silence, command silence and window too", 5),
+    ("left RUN: command silence, while marked", 3),
     ("left RUN: wrong cycle, while marked", 5),
     ("left RUN: order, while marked", 3),
-    ("inputs: left RUN: mark", 5),
+    ("inputs: left RUN: window", 5),
     ("mark healed on the other port", 10),
-    ("left RUN: mark", 20),
+    ("left RUN: window", 20),
+    ("entered RUN, 26h none since power-up", 1),
     ("sync in RUN, heard, CYC = c + 1, e = 0: 0", 20),
     ("sync in RUN, heard, CYC = c + 1, e = 0: 22", 20),
     ("sync in RUN, heard, CYC = c + 1, e = TCYC - w - 1: 22", 10),
@@ -127,6 +136,22 @@ const IN_A_LONG_SCRIPT: [(&str, usize); 55] = [
     ("sync in RUN, unheard, CYC = c, e = w - 1: 0", 50),
     ("sync in RUN, unheard, CYC = c, e = w: 0", 20),
     ("sync in RUN, unheard, CYC = c, e = w + 1: 22", 10),
+];
+
+/// For each ground that 26h shows.
+const WITH_EACH_GROUND: [(&str, usize); 6] = [
+    ("left RUN: ", 10),
+    ("entered RUN, 26h ", 10),
+    ("in fallback again by sync silence, 26h ", 3),
+    ("in fallback again by order, 26h ", 3),
+    ("reply: to a read, 26h ", 5),
+    ("reply: to a sync, 26h ", 20),
+];
+
+const NEVER: [&str; 3] = [
+    census::CHANGED,
+    "left RUN: none since power-up",
+    "left RUN: not a ground",
 ];
 
 /// The spans that can be written, and the modes in which they can.
@@ -148,6 +173,7 @@ pub fn run(tally: &mut Tally) {
     inputs_in_run(tally);
     generated(tally);
     generated_edges(tally);
+    generated_grounds(tally);
 }
 
 fn output(program: Program, input: &[u8]) -> String {
@@ -297,5 +323,25 @@ fn generated_edges(tally: &mut Tally) {
                 tally.check(census.count(&what) > 0, &what);
             }
         }
+    }
+}
+
+/// The same script must bring up what concerns 26h, with each ground.
+fn generated_grounds(tally: &mut Tally) {
+    let census = census::of(&generate::script(12, 20_000));
+    for (start, least) in WITH_EACH_GROUND {
+        for ground in Ground::ALL {
+            let what = start.to_string() + ground.name();
+            tally.check(census.count(&what) >= least, &what);
+        }
+    }
+    for start in ["24h", "25h", "26h"] {
+        for mode in ["Fallback", "Run"] {
+            let what = format!("write over 26h from {start}: 16 in {mode}");
+            tally.check(census.count(&what) >= 5, &what);
+        }
+    }
+    for what in NEVER {
+        tally.check(census.count(what) == 0, what);
     }
 }

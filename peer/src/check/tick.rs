@@ -2,7 +2,8 @@
 
 use super::module::Bench;
 use super::Tally;
-use crate::module::registers::{HOLD, INPUTS, OUTPUTS, OUT_REP, REP, STATUT};
+use crate::module::ground::Ground;
+use crate::module::registers::{GROUND, HOLD, INPUTS, OUTPUTS, OUT_REP, REP, STATUT};
 use crate::module::{Agent, Fixed, Mode};
 use crate::refusal::Refusal;
 
@@ -49,17 +50,17 @@ fn starts() -> [Start; 6] {
         }),
         start("RUN, its cycle ends, marked", marked.agent, |agent| {
             one_ms(agent);
-            fall_back(agent);
+            fall_back(agent, Ground::Window);
             end_cycle(agent);
         }),
         start("RUN, at the sync limit", sync.agent, |agent| {
             one_ms(agent);
-            fall_back(agent);
+            fall_back(agent, Ground::SyncSilence);
             end_cycle(agent);
         }),
         start("RUN, at the output limit", output.agent, |agent| {
             one_ms(agent);
-            fall_back(agent);
+            fall_back(agent, Ground::CommandSilence);
         }),
     ]
 }
@@ -79,11 +80,12 @@ fn end_cycle(agent: &mut Agent) {
     (agent.heard, agent.in_cycle, agent.taken) = (false, 0, 0);
 }
 
-fn fall_back(agent: &mut Agent) {
+fn fall_back(agent: &mut Agent, ground: Ground) {
     (agent.mode, agent.since_output, agent.mark) = (Mode::Fallback, 0, 0);
     agent.registers.bytes[OUTPUTS].fill(0);
     agent.registers[OUT_REP] = HOLD;
     agent.registers[STATUT] |= REP;
+    agent.registers[GROUND] = ground.number();
 }
 
 /// Nothing at all changes.

@@ -168,6 +168,7 @@ fn not_healed(tally: &mut Tally) {
         wanted.registers.bytes[0x80..0xC0].fill(0);
         wanted.registers[0x17] = 0xAA;
         wanted.registers[0x19] = 0x80 | ESE;
+        wanted.registers[0x26] = 5;
         (wanted.cycle, wanted.heard, wanted.in_cycle, wanted.taken) = (0x08, false, 0, 0);
         wanted.since_sync = 16;
         bench.ticks(1);

@@ -6,6 +6,7 @@
 mod assignment;
 mod call;
 mod fixed;
+pub mod ground;
 mod mode;
 mod notes;
 pub mod registers;

@@ -1,6 +1,7 @@
 //! The two modes and the ways between them.
 
-use super::registers::{HOLD, OUTPUTS, OUT_REP, REP, STATUT};
+use super::ground::Ground;
+use super::registers::{GROUND, HOLD, OUTPUTS, OUT_REP, REP, STATUT};
 use super::{Agent, UNMARKED};
 
 #[derive(Clone, Copy, Debug, PartialEq, Eq)]
@@ -10,8 +11,11 @@ pub enum Mode {
 }
 
 impl Agent {
-    /// Also in fallback: then it takes back a release that is pending.
-    pub(super) fn enter_fallback(&mut self) {
+    /// Also in fallback: then it takes back a release that is pending, and 26h keeps its ground.
+    pub(super) fn enter_fallback(&mut self, ground: Ground) {
+        if self.mode == Mode::Run {
+            self.registers[GROUND] = ground.number();
+        }
         self.mode = Mode::Fallback;
         self.registers.bytes[OUTPUTS].fill(0);
         self.registers[OUT_REP] = HOLD;

@@ -1,5 +1,6 @@
 //! The 256 registers: where each is, and what each holds at power-up.
 
+use super::ground::NO_GROUND;
 use std::ops::{Index, IndexMut, RangeInclusive};
 
 pub const MAC: u8 = 0x00;
@@ -18,7 +19,8 @@ pub const SZ_REF: u8 = 0x1D;
 pub const CPT_SEQ: u8 = 0x20;
 pub const CPT_FOR: u8 = 0x24;
 pub const CONF: u8 = 0x25;
-pub const SPARE: RangeInclusive<usize> = 0x26..=0x7F;
+pub const GROUND: u8 = 0x26;
+pub const SPARE: RangeInclusive<usize> = 0x27..=0x7F;
 pub const OUTPUTS: RangeInclusive<usize> = 0x80..=0xBF;
 pub const INPUTS: RangeInclusive<usize> = 0xC0..=0xFF;
 
@@ -73,6 +75,7 @@ impl Registers {
         registers[CNF_CYC] = 0x02;
         registers[AD_REF] = 0x80;
         registers[SZ_REF] = 0x08;
+        registers[GROUND] = NO_GROUND;
         registers.bytes[SPARE].fill(0xFF);
         registers
     }

@@ -1,7 +1,7 @@
 //! Which states are sound. A host could hand in any state; no call works on an unsound one.
 
 use super::registers::*;
-use super::{assignable, Agent, Mode, MARKED, NO_SID, RECORDED_MAX, UNMARKED};
+use super::{assignable, ground, Agent, Mode, MARKED, NO_SID, RECORDED_MAX, UNMARKED};
 
 impl Agent {
     pub fn sound(&self) -> bool {
@@ -24,6 +24,7 @@ impl Agent {
             && (registers[TID] == NO_TID || assignable(registers[TID]))
             && registers[TYP] == OUTPUT_MODULE_SIL2
             && registers[STATUT] & PTS == 0
+            && ground::sound(registers[GROUND])
     }
 
     fn concentrators_sound(&self) -> bool {

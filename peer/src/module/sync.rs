@@ -1,5 +1,6 @@
 //! A sync: the beginning of a cycle, and the step to RUN after a release.
 
+use super::ground::Ground;
 use super::registers::{OUT_REP, RELEASE};
 use super::reply::Reply;
 use super::{Agent, Mode, UNMARKED};
@@ -15,7 +16,7 @@ impl Agent {
             return Err(Refusal::Repeat);
         }
         if self.mode == Mode::Run && !self.expects(cyc) {
-            self.enter_fallback();
+            self.enter_fallback(Ground::WrongCycle);
             return Err(Refusal::Cycle);
         }
         if self.mode == Mode::Run && !self.in_window(cyc) {

@@ -1,5 +1,6 @@
 //! The tick call: the host gives the inputs, all 64 at once, and one ms goes by.
 
+use super::ground::Ground;
 use super::registers::INPUTS;
 use super::{Agent, Mode, MARKED};
 use crate::refusal::Refusal;
@@ -36,19 +37,22 @@ impl Agent {
         }
     }
 
-    /// Too long without a sync means fallback in either mode: a pending release ends too.
+    /// Too long without a sync means fallback in either mode: a pending release ends too. When both
+    /// silences end on one tick, that is the ground.
     fn judge_silence(&mut self) {
         let no_sync = self.since_sync as u32 >= self.sync_limit();
         let no_output = self.mode == Mode::Run && self.since_output >= self.output_limit();
-        if no_sync || no_output {
-            self.enter_fallback();
+        if no_sync {
+            self.enter_fallback(Ground::SyncSilence);
+        } else if no_output {
+            self.enter_fallback(Ground::CommandSilence);
         }
     }
 
     /// A mark that no accepted sync has cleared by now means fallback.
     fn end_cycle(&mut self) {
         if self.mode == Mode::Run && self.mark == MARKED {
-            self.enter_fallback();
+            self.enter_fallback(Ground::Window);
         }
         self.cycle = self.cycle.wrapping_add(1);
         self.heard = false;

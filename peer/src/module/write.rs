@@ -1,5 +1,6 @@
 //! A write into the registers: where it may go, what it may hold, and what it does.
 
+use super::ground::Ground;
 use super::registers::*;
 use super::{Agent, Mode};
 use crate::refusal::Refusal;
@@ -25,7 +26,7 @@ impl Agent {
         }
         self.registers.put(add, data);
         match area {
-            Area::Release if data == [HOLD] => self.enter_fallback(),
+            Area::Release if data == [HOLD] => self.enter_fallback(Ground::Order),
             Area::Outputs => self.since_output = 0,
             _ => {}
         }

@@ -1,12 +1,13 @@
 //! Changes that leave a sound state sound, though no script would reach it; and changes of any bytes.
 
+use crate::ground;
 use host::library::SaturnAgent;
 use peer::generate::random::Random;
-use peer::module::registers::STATUT;
+use peer::module::registers::{GROUND, STATUT};
 
 type Change = fn(&mut Random, &mut SaturnAgent);
 
-pub const HARMLESS: [(&str, Change); 11] = [
+pub const HARMLESS: [(&str, Change); 12] = [
     ("e at 254", |_, state| state.elapsed = 254),
     ("e any", |random, state| {
         state.elapsed = random.below(255) as u8
@@ -19,6 +20,10 @@ pub const HARMLESS: [(&str, Change); 11] = [
     // In either mode.
     ("mark set", |_, state| state.mark = 1),
     ("mark clear", |_, state| state.mark = 0),
+    // In either mode, and before the first RUN too.
+    ("26h any from 0 to 5", |random, state| {
+        state.regs[GROUND as usize] = ground::some_value(random);
+    }),
     ("c any", |random, state| state.cycle = random.byte()),
     ("STATUT bits 5 to 0", |random, state| {
         state.regs[STATUT as usize] |= random.byte() & 0x3F;
@@ -39,7 +44,7 @@ pub fn any_bytes(random: &mut Random, state: &mut SaturnAgent) {
     for _ in 0..1 + random.below(4) {
         let byte = random.byte();
         match random.below(10) {
-            0..=3 => state.regs[random.below(0x26)] = byte,
+            0..=3 => state.regs[random.below(0x27)] = byte,
             4 => state.regs[random.below(256)] = byte,
             5 => state.known[random.below(8)] = random.next() as u32 >> random.below(24),
             6 => state.last = random.next() as u32 >> random.below(24),

@@ -2,11 +2,13 @@
 //!
 //! `compare SEED SCRIPTS LINES`: SCRIPTS scripts of LINES lines each, on modules with either limit of
 //! requests in turn, with calls between the lines on unsound states, short buffers, other ports, inputs
-//! of other lengths, requests around the limit and syncs about their window. Stops at the first difference.
+//! of other lengths, requests around the limit, syncs about their window and ticks that meet the grounds of
+//! fallback. Stops at the first difference.
 
 mod alter;
 mod call;
 mod flood;
+mod ground;
 mod play;
 mod power;
 mod spoil;

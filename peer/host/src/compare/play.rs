@@ -3,6 +3,7 @@
 use crate::alter::{any_bytes, HARMLESS};
 use crate::call::{compared, Call};
 use crate::flood;
+use crate::ground::{self, MEETINGS};
 use crate::spoil::WAYS;
 use crate::tally::{Tally, INPUTS_MAX, INPUTS_SOUND, INPUTS_UNSOUND, MARKED_ENDS, SHORT_BUFFERS};
 use crate::window;
@@ -22,6 +23,7 @@ const SHORT_BUFFER: usize = 2;
 const WRONG_HOST: usize = 6;
 const FLOOD: usize = 8;
 const WINDOW: usize = 4;
+const MEETING: usize = 4;
 
 /// What is fixed in the module, and in the one that the scenes are for; by the seed in turn.
 const FIXED: [(Fixed, Fixed); 4] = [
@@ -37,10 +39,11 @@ pub struct Play<'a> {
     line: usize,
     scenes: Fixed,
     state: SaturnAgent,
-    /// The next way, the next short length, and the next length of inputs.
+    /// The next way, the next short length, the next length of inputs, and the next meeting of grounds.
     way: usize,
     room: usize,
     length: usize,
+    meeting: usize,
     tally: &'a mut Tally,
 }
 
@@ -56,6 +59,7 @@ impl<'a> Play<'a> {
             way: seed as usize,
             room: seed as usize * 101 % REPLY_ROOM,
             length: seed as usize,
+            meeting: seed as usize,
             random,
             tally,
         }
@@ -104,6 +108,12 @@ impl<'a> Play<'a> {
             .map_err(|difference| format!("seed {seed}, line {line}: {difference}"))?;
         let answer = format!("answer {:2}", left.answer);
         self.tally.add_limited(&answer, before.fixed.limit);
+        if left.answer != 19 {
+            self.tally.add(&ground::sound(before));
+        }
+        if let Some(passage) = ground::passage(before, &left.state) {
+            self.tally.add(&passage);
+        }
         Ok((left.answer, left.state))
     }
 
@@ -130,6 +140,9 @@ impl<'a> Play<'a> {
         }
         if self.random.one_in(WINDOW) {
             self.window()?;
+        }
+        if self.random.one_in(MEETING) {
+            self.meet()?;
         }
         if self.random.one_in(HARMLESS_CHANGE) {
             self.harmless(call)?;
@@ -241,6 +254,24 @@ impl<'a> Play<'a> {
             let fell = before.mode == RUN && state.mode == FALLBACK;
             if fell && before.mark == 1 && before.cycle != state.cycle {
                 self.tally.add(MARKED_ENDS);
+            }
+        }
+        Ok(())
+    }
+
+    /// In RUN: the tick of the next meeting of grounds, if these limits have it, then one ms more.
+    fn meet(&mut self) -> Result<(), String> {
+        self.meeting += 1;
+        let (name, meeting) = MEETINGS[self.meeting % MEETINGS.len()];
+        let mut state = self.state;
+        if state.mode != RUN || !ground::alter(&mut self.random, &mut state, meeting) {
+            return Ok(());
+        }
+        for _ in 0..2 {
+            let before = state;
+            state = self.compare(&before, &Call::Tick(vec![0; 64]))?.1;
+            if before.mode == RUN && state.mode == FALLBACK {
+                self.tally.add(&ground::met(name));
             }
         }
         Ok(())

@@ -1,7 +1,9 @@
-//! The ways to make a state unsound: each point of document 01's list and of decisions A18, R6.2 and R1.4.
+//! The ways to make a state unsound: each point of document 01's list and of decisions A18, R6.2, R1.4
+//! and R5.5.
 
 use host::library::{SaturnAgent, FALLBACK, RUN};
 use peer::generate::random::Random;
+use peer::module::ground::Ground;
 use peer::module::registers::*;
 use peer::module::{assignable, LIMITS};
 
@@ -17,7 +19,7 @@ const fn way(name: &'static str, make: fn(&mut Random, &mut SaturnAgent) -> bool
 
 const NO_SID: u32 = 0xFF_FFFF;
 
-pub const WAYS: [Way; 38] = [
+pub const WAYS: [Way; 41] = [
     way("t is 0", |_, state| set(state, TCYC, 0)),
     way("n is 0", |_, state| set(state, CNF_CYC, 0)),
     way("m is 0", |_, state| set(state, CNF_REP, 0)),
@@ -167,6 +169,18 @@ pub const WAYS: [Way; 38] = [
         state.mark = random.pick(&[2, 3, 128, 255]);
         true
     }),
+    way("RUN with 26h above 5", |random, state| {
+        let above = above_grounds(random);
+        set(state, GROUND, above) && state.mode == RUN
+    }),
+    way("fallback with 26h above 5", |random, state| {
+        let above = above_grounds(random);
+        set(state, GROUND, above) && state.mode == FALLBACK
+    }),
+    way("26h 6, 7, 128 or 255", |random, state| {
+        let above = random.pick(&[6, 7, 128, 255]);
+        set(state, GROUND, above)
+    }),
 ];
 
 fn set(state: &mut SaturnAgent, register: u8, value: u8) -> bool {
@@ -181,6 +195,11 @@ fn other_than(random: &mut Random, these: &[u8]) -> u8 {
             return byte;
         }
     }
+}
+
+fn above_grounds(random: &mut Random) -> u8 {
+    let last = Ground::Window.number();
+    last + 1 + random.below((0xFF - last) as usize) as u8
 }
 
 fn recorded(state: &SaturnAgent, source: u32) -> bool {

@@ -1,6 +1,7 @@
 //! What came up and how often; some things must have come up.
 
 use crate::alter::HARMLESS;
+use crate::ground;
 use crate::spoil::WAYS;
 use peer::module::{LIMITS, REPLY_ROOM};
 use std::collections::BTreeMap;
@@ -83,6 +84,7 @@ impl Tally {
             .chain(ways)
             .chain(harmless)
             .chain(by_limit)
+            .chain(ground::all())
             .filter(|what| self.count(what) == 0)
             .chain(lengths)
             .collect()

@@ -205,13 +205,13 @@ impl Stage {
         }
     }
 
-    fn order_fallback(&mut self) {
+    pub fn order_fallback(&mut self) {
         self.heard_cycle(1);
         self.write(OUT_REP, &[HOLD]);
     }
 
     /// A sync that RUN does not accept.
-    fn wrong_cycle(&mut self) {
+    pub fn wrong_cycle(&mut self) {
         let cyc = self.agent().cycle;
         let ahead = self.random.pick(&[2, 3, 0x80, 0xFE, 0xFF]);
         let body = speech::sync(self.active(), cyc.wrapping_add(ahead)).body();

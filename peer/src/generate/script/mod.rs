@@ -3,6 +3,7 @@
 mod cycles;
 mod faults;
 mod floods;
+mod grounds;
 mod lines;
 mod manners;
 mod names;
@@ -24,11 +25,13 @@ use stage::Stage;
 type Scene = fn(&mut Stage);
 
 /// The scenes and how often each is in a deck.
-const SCENES: [(Scene, usize); 45] = [
+const SCENES: [(Scene, usize); 47] = [
     (cycles::steady, 4),
     (cycles::wrap, 3),
     (windows::edges, 11),
     (windows::silence, 3),
+    (grounds::passages, 7),
+    (grounds::references, 2),
     (takeover::in_run, 7),
     (takeover::in_fallback, 2),
     (takeover::round, 1),

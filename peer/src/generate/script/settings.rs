@@ -126,11 +126,16 @@ pub fn references(stage: &mut Stage) {
         stage.reach_run();
         stage.begin_cycle();
     }
+    settle_reference(stage);
+}
+
+/// One that can be read, and stays for the scenes that follow.
+pub fn settle_reference(stage: &mut Stage) {
     let (place, size) = stage.random.pick(&[(0x80, 8), (0x10, 0x20), (0x19, 1)]);
     set_reference(stage, place, size);
 }
 
-fn set_reference(stage: &mut Stage, place: u8, size: u8) {
+pub fn set_reference(stage: &mut Stage, place: u8, size: u8) {
     stage.heard_in_fallback(3);
     match stage.random.below(3) {
         0 => {

@@ -28,6 +28,9 @@ element-copy-out-result-3 c = search needs
 element-copy-out-result-4 : tie.Need-element-copy-out-result-4
 element-copy-out-result-4 c = search needs
 
+element-copy-out-result-5 : tie.Need-element-copy-out-result-5
+element-copy-out-result-5 c = search needs
+
 returns : tie.Need-returns
 returns c = settings-law _ _ _ (search needs) (search needs)
 
@@ -43,4 +46,5 @@ settings-sound-spec =
     element-copy-out-result-2
     element-copy-out-result-3
     element-copy-out-result-4
+    element-copy-out-result-5
     returns)
