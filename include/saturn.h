@@ -22,7 +22,7 @@
  * - x86-64 with SSE2 and the System V calling convention. It uses SSE registers and the red zone: on bare metal enable SSE
  *   before the first call, and let no interrupt use the 128 bytes below the stack pointer.
  * - memcpy and memset only: no heap, no other library.
- * - 4,240 bytes of stack in the deepest call (measured, not proved; docs/PROVED.md, 'Figures').
+ * - 4,224 bytes of stack in the deepest call (measured, not proved; docs/PROVED.md, 'Figures').
  * It writes no static data. Agents may run in parallel, each with its own buffers. */
 #ifndef SATURN_H
 #define SATURN_H
@@ -32,9 +32,9 @@
 
 /* the version of this header, and of the library that it was installed with */
 #define SATURN_VERSION_MAJOR 4
-#define SATURN_VERSION_MINOR 1
+#define SATURN_VERSION_MINOR 2
 #define SATURN_VERSION_PATCH 0
-#define SATURN_VERSION "4.1.0"
+#define SATURN_VERSION "4.2.0"
 
 #ifdef __cplusplus
 extern "C" {
@@ -42,7 +42,7 @@ extern "C" {
 
 /* What is fixed at power-up: no call changes it. */
 typedef struct saturn_fixed {
-    uint8_t limit; /* how many requests are taken in a cycle: SATURN_LIMIT_LIGHTING or SATURN_LIMIT_DOORS */
+    uint8_t limit; /* the limit of requests in a cycle: SATURN_LIMIT_LIGHTING or SATURN_LIMIT_DOORS */
 } saturn_fixed;
 
 /* The state, field by field as in crates/rules/src/lib.rt. */
@@ -54,7 +54,7 @@ typedef struct saturn_agent {
     uint16_t idle;     /* q: ms since the last output write or entry to RUN */
     uint8_t cycle;     /* c: the cycle counter */
     uint8_t elapsed;   /* e: ms in the cycle */
-    uint8_t taken;     /* k: requests taken in the cycle */
+    uint8_t taken;     /* k: the number after the highest taken in the cycle, counted from its first SEQ */
     uint8_t mode;      /* SATURN_RUN or SATURN_FALLBACK */
     uint8_t heard;     /* whether the cycle is heard (1) or not (0) */
     uint8_t mark;      /* whether a sync came outside its window (1) or not (0); see SATURN_OUTSIDE_WINDOW */
@@ -92,7 +92,7 @@ enum {
     SATURN_REG_SZ_REF = 0x1D,    /* and this many of them */
     SATURN_REG_CPT_TOCO1 = 0x1E, /* counters, up to CPT_FOR; the agent itself counts only CPT_SEQ and CPT_FOR */
     SATURN_REG_CPT_TOCO2 = 0x1F,
-    SATURN_REG_CPT_SEQ = 0x20,   /* frames with a wrong CYC or SEQ */
+    SATURN_REG_CPT_SEQ = 0x20,   /* frames with a wrong CYC or SEQ, and numbers skipped */
     SATURN_REG_CPT_TOAC1 = 0x21,
     SATURN_REG_CPT_TOAC2 = 0x22,
     SATURN_REG_CPT_SYNC = 0x23,
@@ -137,9 +137,9 @@ enum {
     SATURN_SOURCE = 10,        /* source FFFFFFh or not the one demanded */
     SATURN_ADDRESSEE = 11,     /* SID, MAC or IID not the module's */
     SATURN_CYCLE = 12,         /* CYC not the one due, or a request in a cycle whose sync was not heard */
-    SATURN_REPEAT = 13,        /* a copy of a sync accepted before, or of a request taken before */
-    SATURN_OUT_OF_ORDER = 14,  /* SEQ ahead of the one due */
-    SATURN_TOO_MANY = 15,      /* due, but as many as the limit were taken in the cycle */
+    SATURN_REPEAT = 13,        /* a copy of a sync accepted before, or a SEQ taken or skipped before */
+    SATURN_OUT_OF_ORDER = 14,  /* SEQ more than three ahead of the one due */
+    SATURN_TOO_MANY = 15,      /* SEQ due or at most three ahead, but past the last one that the limit allows in the cycle */
     SATURN_OUTSIDE_RULES = 16, /* write outside the rules */
     SATURN_NOT_ALLOWED = 17,   /* TID or SID not allowed */
     SATURN_EIGHT_OTHERS = 18,  /* eight others are recorded */
@@ -168,9 +168,9 @@ static inline const char *saturn_answer_text(uint8_t answer)
     case SATURN_SOURCE: return "source not the one demanded";
     case SATURN_ADDRESSEE: return "SID, MAC or IID of another module";
     case SATURN_CYCLE: return "CYC not the one due, or cycle not heard";
-    case SATURN_REPEAT: return "copy of a sync accepted or a request taken before";
-    case SATURN_OUT_OF_ORDER: return "SEQ ahead of the one due";
-    case SATURN_TOO_MANY: return "limit of requests reached in the cycle";
+    case SATURN_REPEAT: return "copy of a sync accepted before, or SEQ taken or skipped before";
+    case SATURN_OUT_OF_ORDER: return "SEQ more than three ahead of the one due";
+    case SATURN_TOO_MANY: return "SEQ past the last one that the limit allows in the cycle";
     case SATURN_OUTSIDE_RULES: return "write outside the rules";
     case SATURN_NOT_ALLOWED: return "TID or SID not allowed";
     case SATURN_EIGHT_OTHERS: return "eight other concentrators recorded";
@@ -212,7 +212,8 @@ uint8_t saturn_tick(saturn_agent *agent, const uint8_t *inputs, size_t inputs_le
  * The first *sent bytes of reply are the whole reply with both flags, to be sent on both ports; the rest of reply is left
  * as it was. *sent is 0 if there is no reply. With 19, 20 and 21 agent and reply are left as they were and *sent is 0. After 22,
  * a sync outside its window, RUN goes on: a sync that is accepted clears the mark, and if none is until a tick ends the cycle,
- * that tick leads to fallback. */
+ * that tick leads to fallback. A request up to three numbers ahead of the one due is taken: the numbers skipped count in CPT_SEQ
+ * and set bit 1 of STATUT, and one of them that comes later in that cycle is 13. */
 uint8_t saturn_frame(saturn_agent *agent, uint8_t port, const uint8_t *body, size_t body_length, uint8_t *reply,
                      size_t reply_length, uint16_t *sent);
 

@@ -7,6 +7,7 @@ ghost use Rattle.rules.specs.Requests.{firstSeq, distance, onAsk, onDistance, o
 ghost use Rattle.agent_requests.specs.Asks.{askOf};
 ghost use Rattle.agent_replies.specs.Fitting.{Fitting};
 use agent_marks::marks::sequence_marked;
+use agent_marks::marks::skip_marked;
 use agent_replies::replies::does;
 use agent_replies::replies::read_reply;
 use agent_state::answers::ADDRESSEE;
@@ -52,8 +53,11 @@ fn on_ask(port: u8, a: Agent, src: u32, seq: u8, ask: Ask, xs: &[u8]) -> Deed
     }
 }
 
-// By the distance: below k is a repeat, above k is out of order; due but k is the limit is 15; a request that is taken raises
-// k even if its write is then refused.
+// How many numbers a request may skip.
+const MOST_SKIPPED: u8 = 3;
+
+// By the distance: below k is a repeat, a number skipped before too; above k + 3 is out of order; at the limit or past it is 15;
+// else the request is taken, even if its write is then refused: the numbers skipped are counted, and k becomes d + 1.
 fn on_distance(port: u8, a: Agent, src: u32, seq: u8, d: u8, ask: Ask, xs: &[u8]) -> Deed
     requires { ⌜ (src < 2 ^ 24) × (length (now xs) ≤ 272) ⌝ }
     ensures { λ r. ⌜ (r ≡ onDistance port a src seq d (askOf ask (now (xs .entry)))) × Fitting (r .reply) ⌝ }
@@ -61,13 +65,14 @@ fn on_distance(port: u8, a: Agent, src: u32, seq: u8, d: u8, ask: Ask, xs: &[u8]
     if d < a.taken {
         return does(REPEAT, a);
     }
-    if a.taken < d {
+    let skips = d - a.taken;
+    if MOST_SKIPPED < skips {
         return does(OUT_OF_ORDER, sequence_marked(a));
     }
-    if a.fixed.limit <= a.taken {
+    if a.fixed.limit <= d {
         return does(TOO_MANY, a);
     }
-    let mut next = a;
+    let mut next = skip_marked(skips, a);
     next.taken = d + 1;
     on_ask(port, next, src, seq, ask, xs)
 }

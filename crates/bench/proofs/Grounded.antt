@@ -9,7 +9,7 @@ use Rattle.rules.specs.Calls.{tickCall}
 use Rattle.rules.specs.Fallback.{enterFallback, enterRun}
 use Rattle.rules.specs.Fixed.{fits}
 use Rattle.rules.specs.Inputs.{withInputs}
-use Rattle.rules.specs.Marks.{sequenceMarked, windowMarked}
+use Rattle.rules.specs.Marks.{sequenceMarked, skipMarked, windowMarked}
 use Rattle.rules.specs.PowerUp.{powerRegs, powerUp}
 use Rattle.rules.specs.Registers.{outRep, lowBytes, lowNumber}
 use Rattle.rules.specs.Replies.{syncReply, acknowledges, sendFrame, sent}
@@ -50,7 +50,7 @@ behind : (cs : List Coming) → after (calls cs) (started 16) ≡ agentAfter cs 
 behind cs = ap (after (calls cs)) (started-is 16) ∙ after-calls cs (running 16)
 
 pub grounds : Grounds
-unfolding tickCall withInputs onFirstSid onLaterSid onSid enterFallback enterRun powerRegs powerUp lowBytes lowNumber syncReply acknowledges sendFrame sent distance onDistance onRequest settingsSound sourcesSound countersSound outputsZero runSound fallbackSound sound fits holds distinct below24 isRecorded recorded sidOf cycleFits heardSync synced onSync spanAt spanOf onWrite inWindow width sequenceMarked windowMarked ticked counted limited cycleEnded
+unfolding tickCall withInputs onFirstSid onLaterSid onSid enterFallback enterRun powerRegs powerUp lowBytes lowNumber syncReply acknowledges sendFrame sent distance onDistance skipMarked onRequest settingsSound sourcesSound countersSound outputsZero runSound fallbackSound sound fits holds distinct below24 isRecorded recorded sidOf cycleFits heardSync synced onSync spanAt spanOf onWrite inWindow width sequenceMarked windowMarked ticked counted limited cycleEnded
 grounds = (
   (refl, refl),
   shows 1 0 (started-is 16) (refl, refl),

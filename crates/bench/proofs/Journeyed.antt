@@ -8,6 +8,7 @@ use Rattle.frame_kinds.specs.declared.kinds.Frame.the-variants.{Sync, SafeWrite
 use Rattle.rules.specs.Assignments.{onFirstSid, onLaterSid, onSid}
 use Rattle.rules.specs.Fallback.{enterFallback, enterRun}
 use Rattle.rules.specs.Fixed.{fits}
+use Rattle.rules.specs.Marks.{skipMarked}
 use Rattle.rules.specs.PowerUp.{powerRegs, powerUp}
 use Rattle.rules.specs.Registers.{outRep, outputsAt, lowBytes, lowNumber}
 use Rattle.rules.specs.Replies.{syncReply, acknowledges, sendFrame, sent}
@@ -38,17 +39,17 @@ opened = after-calls coming module1
 
 -- every call of the opening is accepted
 pub all-accepted : answers opening module1 ≡ 0 ∷ 0 ∷ 0 ∷ 0 ∷ 0 ∷ []
-unfolding onFirstSid onLaterSid onSid enterFallback enterRun powerRegs powerUp lowBytes lowNumber syncReply acknowledges sendFrame sent distance onDistance onRequest settingsSound sourcesSound countersSound outputsZero runSound fallbackSound sound fits holds distinct below24 isRecorded recorded sidOf cycleFits heardSync synced onSync spanAt spanOf onWrite
+unfolding onFirstSid onLaterSid onSid enterFallback enterRun powerRegs powerUp lowBytes lowNumber syncReply acknowledges sendFrame sent distance onDistance skipMarked onRequest settingsSound sourcesSound countersSound outputsZero runSound fallbackSound sound fits holds distinct below24 isRecorded recorded sidOf cycleFits heardSync synced onSync spanAt spanOf onWrite
 all-accepted = answers-calls coming module1 ∙ refl
 
 -- it ends in RUN with the output written
 pub in-run : (after opening module1 .mode ≡ inRun) × (reg (after opening module1) outputsAt ≡ 0xAB)
-unfolding onFirstSid onLaterSid onSid enterFallback enterRun powerRegs powerUp lowBytes lowNumber syncReply acknowledges sendFrame sent distance onDistance onRequest settingsSound sourcesSound countersSound outputsZero runSound fallbackSound sound fits holds distinct below24 isRecorded recorded sidOf cycleFits heardSync synced onSync spanAt spanOf onWrite
+unfolding onFirstSid onLaterSid onSid enterFallback enterRun powerRegs powerUp lowBytes lowNumber syncReply acknowledges sendFrame sent distance onDistance skipMarked onRequest settingsSound sourcesSound countersSound outputsZero runSound fallbackSound sound fits holds distinct below24 isRecorded recorded sidOf cycleFits heardSync synced onSync spanAt spanOf onWrite
 in-run = (ap (λ (a : Agent). a .mode) opened ∙ refl, ap (λ (a : Agent). reg a outputsAt) opened ∙ refl)
 
 -- the inputs are as they were at power-up
 held : Held (agentAfter coming module1)
-unfolding onFirstSid onLaterSid onSid enterFallback enterRun powerRegs powerUp lowBytes lowNumber syncReply acknowledges sendFrame sent distance onDistance onRequest settingsSound sourcesSound countersSound outputsZero runSound fallbackSound sound fits holds distinct below24 isRecorded recorded sidOf cycleFits heardSync synced onSync spanAt spanOf onWrite
+unfolding onFirstSid onLaterSid onSid enterFallback enterRun powerRegs powerUp lowBytes lowNumber syncReply acknowledges sendFrame sent distance onDistance skipMarked onRequest settingsSound sourcesSound countersSound outputsZero runSound fallbackSound sound fits holds distinct below24 isRecorded recorded sidOf cycleFits heardSync synced onSync spanAt spanOf onWrite
 held = held-at (agentAfter coming module1 .regs) refl refl
 
 silence : (n : ℕ) → after (silent n) (after opening module1) ≡ ticks n (agentAfter coming module1)
@@ -58,7 +59,7 @@ silence n = ap (after (silent n)) opened ∙ after-silent n (agentAfter coming m
 pub ring-lost : (after (silent 509) (after opening module1) .mode ≡ inRun)
     × (after (silent 510) (after opening module1) .mode ≡ inFallback)
     × (reg (after (silent 510) (after opening module1)) outputsAt ≡ 0)
-unfolding onFirstSid onLaterSid onSid enterFallback enterRun powerRegs powerUp lowBytes lowNumber syncReply acknowledges sendFrame sent distance onDistance onRequest settingsSound sourcesSound countersSound outputsZero runSound fallbackSound sound fits holds distinct below24 isRecorded recorded sidOf cycleFits heardSync synced onSync spanAt spanOf onWrite ticked counted limited cycleEnded
+unfolding onFirstSid onLaterSid onSid enterFallback enterRun powerRegs powerUp lowBytes lowNumber syncReply acknowledges sendFrame sent distance onDistance skipMarked onRequest settingsSound sourcesSound countersSound outputsZero runSound fallbackSound sound fits holds distinct below24 isRecorded recorded sidOf cycleFits heardSync synced onSync spanAt spanOf onWrite ticked counted limited cycleEnded
 ring-lost = (
   ap (λ (a : Agent). a .mode) (silence 509) ∙ refl,
   ap (λ (a : Agent). a .mode) (silence 510) ∙ refl,

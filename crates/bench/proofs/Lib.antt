@@ -8,3 +8,4 @@ pub mod HeldInputs
 pub mod Journeyed
 pub mod Windowed
 pub mod Grounded
+pub mod Skipped

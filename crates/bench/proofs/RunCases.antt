@@ -12,7 +12,7 @@ use Rattle.rules.specs.Calls.{tickCall, Call, act}
 use Rattle.rules.specs.Fallback.{enterFallback, enterRun}
 use Rattle.rules.specs.Fixed.{doorsLimit, isLimit, fits}
 use Rattle.rules.specs.Inputs.{withInputs}
-use Rattle.rules.specs.Marks.{sequenceMarked}
+use Rattle.rules.specs.Marks.{sequenceMarked, skipMarked}
 use Rattle.rules.specs.PowerUp.{powerRegs}
 use Rattle.rules.specs.Registers.{typAt, lowBytes, lowNumber}
 use Rattle.rules.specs.Replies.{Outcome, syncReply, readReply, sendFrame, sent}
@@ -26,7 +26,7 @@ use Rattle.rules.specs.Writes.{spanAt, spanOf, onWrite}
 use Rattle.rules.specs.State.{withTaken}
 use Rattle.rules.specs.declared.Agent.{Agent}
 use Rattle.rules.proofs.AtLimit.{due-below, due-at}
-use Rattle.rules.proofs.Cases.{IsDue}
+use Rattle.rules.proofs.Cases.{Addressed}
 use Rattle.rules.proofs.LaidServed.{Layable}
 use Rattle.bench.specs.Cases.{afterPreludeOf, afterPrelude, AtLimit, InRun, onTime, asked, Says′, p9, p10, p11, p12, p13, p14}
 use Rattle.bench.specs.BusCalls.{ownSid, ownTid, concentrator, comes, syncs, seqOf, after, silent}
@@ -82,7 +82,7 @@ wraps = (
 
 -- ---- P12
 pub last-output : Says′ p12
-unfolding sent sendFrame onRequest onDistance distance readReply onWrite spanAt spanOf enterFallback settingsSound sourcesSound countersSound outputsZero runSound fallbackSound sound fits holds distinct below24 isRecorded sidOf lowNumber powerRegs lowBytes
+unfolding sent sendFrame onRequest onDistance skipMarked distance readReply onWrite spanAt spanOf enterFallback settingsSound sourcesSound countersSound outputsZero runSound fallbackSound sound fits holds distinct below24 isRecorded sidOf lowNumber powerRegs lowBytes
 last-output = (
   answer-at (write-lays 0x05 0 0xBF (0xA5 ∷ []) (omega arith) (omega arith) (omega arith)) start-05 ∙ refl,
   answer-at (write-lays 0x05 0 0xBF (0xA5 ∷ 0x5A ∷ []) (omega arith) (omega arith) (omega arith)) start-05 ∙ refl,
@@ -90,7 +90,7 @@ last-output = (
 
 -- ---- P13
 pub long-reads : Says′ p13
-unfolding sent sendFrame onRequest onDistance distance readReply onWrite spanAt spanOf enterFallback settingsSound sourcesSound countersSound outputsZero runSound fallbackSound sound fits holds distinct below24 isRecorded sidOf lowNumber powerRegs lowBytes
+unfolding sent sendFrame onRequest onDistance skipMarked distance readReply onWrite spanAt spanOf enterFallback settingsSound sourcesSound countersSound outputsZero runSound fallbackSound sound fits holds distinct below24 isRecorded sidOf lowNumber powerRegs lowBytes
 long-reads = (
   ap (λ (o : Outcome). o .line) (acts-at (read-lays 0x05 0 254 0x02 (omega arith) (omega arith) (omega arith)) start-05)
       ∙ ap (λ (a : Agent). frameLine 0xF0 (SafeResponse concentrator ownSid 0x05 0xFC 0x70 254 0x02 0x00) (take 254 (drop 0x02 (a .regs)))) (sym start-05),
@@ -98,16 +98,16 @@ long-reads = (
 )
 
 -- ---- P14, for either limit: one request more raises k by one, up to the limit
-abbrev asking : ℕ → Frame
+abbrev pub asking : ℕ → Frame
 asking k = SafeRead ownSid concentrator 0x05 (seqOf 0x05 k) 1 typAt
 
-ask-lays : (k : ℕ) → Layable ownTid (asking k) []
+pub ask-lays : (k : ℕ) → Layable ownTid (asking k) []
 ask-lays k = read-lays 0x05 k 1 typAt (omega arith) (omega arith) (omega arith)
 
 module _ (limit : ℕ) (fit : isLimit limit ≡ true) where
-  due-now : (k : ℕ) → k < 256 → IsDue (ready limit 0x05 k) ownSid concentrator 0x05 (seqOf 0x05 k)
+  pub addressed : (k : ℕ) → Addressed (ready limit 0x05 k) ownSid concentrator 0x05
   unfolding sidOf powerRegs lowBytes lowNumber
-  due-now k h = record { somebody = λ z. omega (arith, z); last = refl; sid = refl; heard = refl; same = refl; due = distance-is 0x05 k (omega arith) h }
+  addressed k = record { somebody = λ z. omega (arith, z); last = refl; sid = refl; heard = refl; same = refl }
 
   -- below the limit it is taken
   one-taken : (k : ℕ) → k < limit → (act (ready limit 0x05 k) (comes ownTid (asking k) []) .answer ≡ 0) × (act (ready limit 0x05 k) (comes ownTid (asking k) []) .agent ≡ ready limit 0x05 (suc k))
@@ -117,7 +117,7 @@ module _ (limit : ℕ) (fit : isLimit limit ≡ true) where
       let e : act a (comes ownTid (asking k) []) ≡ sent (onAsk 1 (withTaken (k + 1) a) concentrator (seqOf 0x05 k) (reads 1 typAt)) =
       acts-at (ask-lays k) refl
       ∙ acted-sound ownTid (asking k) [] a (ready-sound limit fit 0x05 k (omega arith))
-      ∙ ap sent (due-below 1 a ownSid concentrator 0x05 (seqOf 0x05 k) (reads 1 typAt) (due-now k (omega (arith, limit-byte limit fit))) h) in
+      ∙ ap sent (due-below 1 a ownSid concentrator 0x05 (seqOf 0x05 k) (reads 1 typAt) (addressed k) (distance-is 0x05 k (omega arith) (omega (arith, limit-byte limit fit))) h) in
       (ap (λ (o : Outcome). o .answer) e ∙ refl, ap (λ (o : Outcome). o .agent) e ∙ ap (ready limit 0x05) (let z : k + 1 ≡ suc k = omega arith in z))
 
   all-taken : (n k : ℕ) → k + n ≤ limit → after (asked n k) (ready limit 0x05 k) ≡ ready limit 0x05 (k + n)
@@ -135,9 +135,9 @@ module _ (limit : ℕ) (fit : isLimit limit ≡ true) where
       ap (λ (o : Outcome). o .answer)
       (acts-at (ask-lays limit) refl
       ∙ acted-sound ownTid (asking limit) [] a (ready-sound limit fit 0x05 limit (omega arith))
-      ∙ ap sent (due-at 1 a ownSid concentrator 0x05 (seqOf 0x05 limit) (reads 1 typAt) (due-now limit (limit-byte limit fit)) (omega arith)))
+      ∙ ap sent (due-at 1 a ownSid concentrator 0x05 (seqOf 0x05 limit) (reads 1 typAt) (addressed limit) (distance-is 0x05 limit (omega arith) (limit-byte limit fit)) (omega arith)))
 
-  reached : (n : ℕ) → n ≤ limit → after (asked n 0) (afterPreludeOf limit 0x04 0x05) ≡ ready limit 0x05 n
+  pub reached : (n : ℕ) → n ≤ limit → after (asked n 0) (afterPreludeOf limit 0x04 0x05) ≡ ready limit 0x05 n
   reached n h =
       ap (after (asked n 0)) (started limit fit 0x04 0x05 (omega arith) (omega arith) refl)
       ∙ all-taken n 0 (omega arith)

@@ -30,7 +30,7 @@ use Rattle.rules.specs.Writes.{spanAt, spanOf, onWrite}
 use Rattle.rules.specs.declared.Agent.{Agent}
 use Rattle.rules.specs.declared.Deed.{Deed}
 use Rattle.rules.proofs.AtLimit.{due-below, relimited, sound-relimited}
-use Rattle.rules.proofs.Cases.{IsDue}
+use Rattle.rules.proofs.Cases.{Addressed}
 use Rattle.rules.proofs.GoodStart.{limit-fits, good-start}
 use Rattle.bench.specs.Cases.{afterPreludeOf, afterPrelude}
 use Rattle.bench.specs.BusCalls.{moduleOf, ownSid, ownTid, concentrator, seqOf}
@@ -140,10 +140,9 @@ module _ (limit : ℕ) (fit : isLimit limit ≡ true) where
         ∙ refl
 
     -- ---- two writes: t is 10, and the release
-    due-now : (regs : List ℕ) (k : ℕ) → ownSid ≡ lowNumber regs sidAt 3 → k < 256
-        → IsDue (staged limit regs concentrator b k inFallback isHeard) ownSid concentrator b (seqOf b k)
+    addressed : (regs : List ℕ) (k : ℕ) → ownSid ≡ lowNumber regs sidAt 3 → Addressed (staged limit regs concentrator b k inFallback isHeard) ownSid concentrator b
     unfolding sidOf
-    due-now regs k e h = record { somebody = λ z. omega (arith, z); last = refl; sid = e; heard = refl; same = refl; due = distance-is b k low h }
+    addressed regs k e = record { somebody = λ z. omega (arith, z); last = refl; sid = e; heard = refl; same = refl }
 
     timed : acted 1 ownTid (SafeWrite ownSid concentrator b (seqOf b 0) 1 tcyc) (0x0A ∷ []) (staged limit namedRegs concentrator b 0 inFallback isHeard) .agent
         ≡ staged limit timedRegs concentrator b 1 inFallback isHeard
@@ -151,7 +150,7 @@ module _ (limit : ℕ) (fit : isLimit limit ≡ true) where
     timed =
         let a : Agent = staged limit namedRegs concentrator b 0 inFallback isHeard in
         acts ownTid (SafeWrite ownSid concentrator b (seqOf b 0) 1 tcyc) (0x0A ∷ []) a (sound-with (staged doorsLimit namedRegs concentrator b 0 inFallback isHeard) 0 (heard-sound b) (omega arith))
-        ∙ ap (λ (d : Deed). sent d .agent) (due-below 1 a ownSid concentrator b (seqOf b 0) (writes tcyc (0x0A ∷ [])) (due-now namedRegs 0 refl (omega arith)) (omega (arith, limit-low)))
+        ∙ ap (λ (d : Deed). sent d .agent) (due-below 1 a ownSid concentrator b (seqOf b 0) (writes tcyc (0x0A ∷ [])) (addressed namedRegs 0 refl) (distance-is b 0 low (omega arith)) (omega (arith, limit-low)))
         ∙ refl
 
     released : acted 1 ownTid (SafeWrite ownSid concentrator b (seqOf b 1) 1 outRep) (0x55 ∷ []) (staged limit timedRegs concentrator b 1 inFallback isHeard) .agent
@@ -160,7 +159,7 @@ module _ (limit : ℕ) (fit : isLimit limit ≡ true) where
     released =
         let a : Agent = staged limit timedRegs concentrator b 1 inFallback isHeard in
         acts ownTid (SafeWrite ownSid concentrator b (seqOf b 1) 1 outRep) (0x55 ∷ []) a (sound-with (staged doorsLimit timedRegs concentrator b 0 inFallback isHeard) 1 (timed-sound b) (omega (arith, limit-low)))
-        ∙ ap (λ (d : Deed). sent d .agent) (due-below 1 a ownSid concentrator b (seqOf b 1) (writes outRep (0x55 ∷ [])) (due-now timedRegs 1 refl (omega arith)) (omega (arith, limit-low)))
+        ∙ ap (λ (d : Deed). sent d .agent) (due-below 1 a ownSid concentrator b (seqOf b 1) (writes outRep (0x55 ∷ [])) (addressed timedRegs 1 refl) (distance-is b 1 low (omega arith)) (omega (arith, limit-low)))
         ∙ refl
 
     -- ---- the second sync, with CYC c, leads to RUN

@@ -9,7 +9,7 @@ use Rattle.rules.specs.Assignments.{onFirstSid, onLaterSid, onSid}
 use Rattle.rules.specs.Calls.{Call}
 use Rattle.rules.specs.Fallback.{enterFallback, enterRun}
 use Rattle.rules.specs.Fixed.{fits}
-use Rattle.rules.specs.Marks.{windowMarked}
+use Rattle.rules.specs.Marks.{skipMarked, windowMarked}
 use Rattle.rules.specs.PowerUp.{powerRegs, powerUp}
 use Rattle.rules.specs.Registers.{outRep, tcyc, cnfCyc, outputsAt, lowBytes, lowNumber}
 use Rattle.rules.specs.Replies.{Outcome, syncReply, acknowledges, sendFrame, sent}
@@ -53,7 +53,7 @@ module _ (t : ℕ) (held : Held (running t)) where
 
 -- ---- the edges
 pub edges : AllEdges
-unfolding onFirstSid onLaterSid onSid enterFallback enterRun powerRegs powerUp lowBytes lowNumber syncReply acknowledges sendFrame sent distance onDistance onRequest settingsSound sourcesSound countersSound outputsZero runSound fallbackSound sound fits holds distinct below24 isRecorded recorded sidOf cycleFits heardSync synced onSync spanAt spanOf onWrite inWindow width windowMarked ticked counted limited cycleEnded
+unfolding onFirstSid onLaterSid onSid enterFallback enterRun powerRegs powerUp lowBytes lowNumber syncReply acknowledges sendFrame sent distance onDistance skipMarked onRequest settingsSound sourcesSound countersSound outputsZero runSound fallbackSound sound fits holds distinct below24 isRecorded recorded sidOf cycleFits heardSync synced onSync spanAt spanOf onWrite inWindow width windowMarked ticked counted limited cycleEnded
 edges =
     let a1 = answered 1 (held-at (running 1 .regs) refl refl) in
     let a7 = answered 7 (held-at (running 7 .regs) refl refl) in
@@ -65,7 +65,7 @@ edges =
 
 -- ---- the three lists
 pub held : Held (running 16)
-unfolding onFirstSid onLaterSid onSid enterFallback enterRun powerRegs powerUp lowBytes lowNumber syncReply acknowledges sendFrame sent distance onDistance onRequest settingsSound sourcesSound countersSound outputsZero runSound fallbackSound sound fits holds distinct below24 isRecorded recorded sidOf cycleFits heardSync synced onSync spanAt spanOf onWrite
+unfolding onFirstSid onLaterSid onSid enterFallback enterRun powerRegs powerUp lowBytes lowNumber syncReply acknowledges sendFrame sent distance onDistance skipMarked onRequest settingsSound sourcesSound countersSound outputsZero runSound fallbackSound sound fits holds distinct below24 isRecorded recorded sidOf cycleFits heardSync synced onSync spanAt spanOf onWrite
 held = held-at (running 16 .regs) refl refl
 
 -- the sync 12h after so many ticks, and so many more
@@ -81,11 +81,11 @@ missed n rest =
     ∙ ap (λ (a : Agent). acted 1 0xFF (Sync concentrator 0x12) [] a .agent) (quiet 16 held n))
 
 held-early : Held (missedAt 10)
-unfolding onFirstSid onLaterSid onSid enterFallback enterRun powerRegs powerUp lowBytes lowNumber syncReply acknowledges sendFrame sent distance onDistance onRequest settingsSound sourcesSound countersSound outputsZero runSound fallbackSound sound fits holds distinct below24 isRecorded recorded sidOf cycleFits heardSync synced onSync spanAt spanOf onWrite inWindow width windowMarked ticked counted limited cycleEnded
+unfolding onFirstSid onLaterSid onSid enterFallback enterRun powerRegs powerUp lowBytes lowNumber syncReply acknowledges sendFrame sent distance onDistance skipMarked onRequest settingsSound sourcesSound countersSound outputsZero runSound fallbackSound sound fits holds distinct below24 isRecorded recorded sidOf cycleFits heardSync synced onSync spanAt spanOf onWrite inWindow width windowMarked ticked counted limited cycleEnded
 held-early = held-at (missedAt 10 .regs) refl refl
 
 held-late : Held (missedAt 19)
-unfolding onFirstSid onLaterSid onSid enterFallback enterRun powerRegs powerUp lowBytes lowNumber syncReply acknowledges sendFrame sent distance onDistance onRequest settingsSound sourcesSound countersSound outputsZero runSound fallbackSound sound fits holds distinct below24 isRecorded recorded sidOf cycleFits heardSync synced onSync spanAt spanOf onWrite inWindow width windowMarked ticked counted limited cycleEnded
+unfolding onFirstSid onLaterSid onSid enterFallback enterRun powerRegs powerUp lowBytes lowNumber syncReply acknowledges sendFrame sent distance onDistance skipMarked onRequest settingsSound sourcesSound countersSound outputsZero runSound fallbackSound sound fits holds distinct below24 isRecorded recorded sidOf cycleFits heardSync synced onSync spanAt spanOf onWrite inWindow width windowMarked ticked counted limited cycleEnded
 held-late = held-at (missedAt 19 .regs) refl refl
 
 pub after-early : (n : ℕ) → after (early ++ silent n) (started 16) ≡ ticks n (missedAt 10)
@@ -106,7 +106,7 @@ abbrev again : Agent
 again = acted 1 0xFF (Sync concentrator 0x12) [] (ticks 5 (missedAt 10)) .agent
 
 held-again : Held again
-unfolding onFirstSid onLaterSid onSid enterFallback enterRun powerRegs powerUp lowBytes lowNumber syncReply acknowledges sendFrame sent distance onDistance onRequest settingsSound sourcesSound countersSound outputsZero runSound fallbackSound sound fits holds distinct below24 isRecorded recorded sidOf cycleFits heardSync synced onSync spanAt spanOf onWrite inWindow width windowMarked ticked counted limited cycleEnded
+unfolding onFirstSid onLaterSid onSid enterFallback enterRun powerRegs powerUp lowBytes lowNumber syncReply acknowledges sendFrame sent distance onDistance skipMarked onRequest settingsSound sourcesSound countersSound outputsZero runSound fallbackSound sound fits holds distinct below24 isRecorded recorded sidOf cycleFits heardSync synced onSync spanAt spanOf onWrite inWindow width windowMarked ticked counted limited cycleEnded
 held-again = held-at (again .regs) refl refl
 
 after-again : after (early ++ (silent 5 ++ (syncs 0x12 ∷ silent 16))) (started 16) ≡ ticks 16 again
@@ -118,7 +118,7 @@ after-again =
     ∙ after-silent 16 again held-again
 
 pub healed : Healed
-unfolding onFirstSid onLaterSid onSid enterFallback enterRun powerRegs powerUp lowBytes lowNumber syncReply acknowledges sendFrame sent distance onDistance onRequest settingsSound sourcesSound countersSound outputsZero runSound fallbackSound sound fits holds distinct below24 isRecorded recorded sidOf cycleFits heardSync synced onSync spanAt spanOf onWrite inWindow width windowMarked ticked counted limited cycleEnded
+unfolding onFirstSid onLaterSid onSid enterFallback enterRun powerRegs powerUp lowBytes lowNumber syncReply acknowledges sendFrame sent distance onDistance skipMarked onRequest settingsSound sourcesSound countersSound outputsZero runSound fallbackSound sound fits holds distinct below24 isRecorded recorded sidOf cycleFits heardSync synced onSync spanAt spanOf onWrite inWindow width windowMarked ticked counted limited cycleEnded
 healed = (
   answered 16 held 10 ∙ refl,
   ap (λ (o : Outcome). o .answer) (acts-at (sync-lays 0x12 (omega arith)) (after-early 5)) ∙ refl,
@@ -126,9 +126,9 @@ healed = (
 )
 
 pub not-healed : NotHealed
-unfolding onFirstSid onLaterSid onSid enterFallback enterRun powerRegs powerUp lowBytes lowNumber syncReply acknowledges sendFrame sent distance onDistance onRequest settingsSound sourcesSound countersSound outputsZero runSound fallbackSound sound fits holds distinct below24 isRecorded recorded sidOf cycleFits heardSync synced onSync spanAt spanOf onWrite inWindow width windowMarked ticked counted limited cycleEnded
+unfolding onFirstSid onLaterSid onSid enterFallback enterRun powerRegs powerUp lowBytes lowNumber syncReply acknowledges sendFrame sent distance onDistance skipMarked onRequest settingsSound sourcesSound countersSound outputsZero runSound fallbackSound sound fits holds distinct below24 isRecorded recorded sidOf cycleFits heardSync synced onSync spanAt spanOf onWrite inWindow width windowMarked ticked counted limited cycleEnded
 not-healed = (runs _ _ (after-early 5) (refl, refl), fallen _ _ (after-early 6) (refl, refl))
 
 pub too-late : TooLate
-unfolding onFirstSid onLaterSid onSid enterFallback enterRun powerRegs powerUp lowBytes lowNumber syncReply acknowledges sendFrame sent distance onDistance onRequest settingsSound sourcesSound countersSound outputsZero runSound fallbackSound sound fits holds distinct below24 isRecorded recorded sidOf cycleFits heardSync synced onSync spanAt spanOf onWrite inWindow width windowMarked ticked counted limited cycleEnded
+unfolding onFirstSid onLaterSid onSid enterFallback enterRun powerRegs powerUp lowBytes lowNumber syncReply acknowledges sendFrame sent distance onDistance skipMarked onRequest settingsSound sourcesSound countersSound outputsZero runSound fallbackSound sound fits holds distinct below24 isRecorded recorded sidOf cycleFits heardSync synced onSync spanAt spanOf onWrite inWindow width windowMarked ticked counted limited cycleEnded
 too-late = (answered 16 held 19 ∙ refl, runs _ _ (after-late 12) (refl, refl), fallen _ _ (after-late 13) (refl, refl))

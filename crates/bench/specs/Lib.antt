@@ -3,3 +3,4 @@ pub mod Journey
 pub mod Windows
 pub mod Cases
 pub mod Grounds
+pub mod Skips

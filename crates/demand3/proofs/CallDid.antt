@@ -18,15 +18,14 @@ use Rattle.frame_reading.proofs.Receiving.{appIn}
 use Rattle.rules.specs.Calls.{Call, tick, frame, act}
 use Rattle.rules.specs.Good.{Good, BytesCall}
 use Rattle.rules.specs.Inputs.{withInputs}
-use Rattle.rules.specs.Refusals.{isSync, readOf, readsSync}
+use Rattle.rules.specs.Refusals.{isSync, readOf, readsSync, skipsBy, skipsRead}
 use Rattle.rules.specs.Registers.{inputsAt, tidAt}
 use Rattle.rules.specs.Replies.{Outcome}
-use Rattle.rules.specs.Requests.{reads, writes}
+use Rattle.rules.specs.Requests.{distance, reads, writes}
 use Rattle.rules.specs.State.{running, store}
-use Rattle.rules.specs.Writes.{spanOf, allowed, written}
+use Rattle.rules.specs.Writes.{spanOf}
 use Rattle.rules.specs.declared.Agent.{Agent}
 use Rattle.rules.specs.declared.Deed.{Deed}
-use Rattle.rules.specs.declared.Span.{Span}
 use Rattle.rules.proofs.Cases.{isHosts, Accepts, heard, read, wrote, renamed, first, again, later, KindCase, refuses, fell, missed, outside, accepts, FrameCase, unread, readAs, CallCase, unsoundly, hosts, ticks, frames, call-case}
 use Rattle.demand3.specs.Events.{eventOf}
 use Rattle.demand3.specs.Numbers.{isAccepted, accepted, outsideRules, outsideWindow}
@@ -34,7 +33,7 @@ use Rattle.demand3.proofs.AgentViews.{agree-refl, apart-view, named-vie
 use Rattle.demand3.proofs.Effects.{Told, told, takes, named, asked, takenOnly, namedFirst, acknowledged, Step}
 use Rattle.demand3.proofs.FrameEvents.{Unheeded, unheeded, Carries, carries, wrong-sync, sync-brings-none}
 use Rattle.demand3.proofs.RegisterViews.{apart-inputs, apart-tid}
-use Rattle.demand3.proofs.RequestDid.{is-due, at-due, is-laid}
+use Rattle.demand3.proofs.RequestDid.{in-reach, is-laid}
 use Rattle.demand3.proofs.Steps.{Leaves, Shown, not-heeded, after-reply, keeps, refused}
 use Rattle.demand3.proofs.SyncDid.{synced-did, fell-did, missed-did}
 use Rattle.demand3.proofs.TickDid.{tick-did}
@@ -52,13 +51,11 @@ module _ {a : Agent} (good : Good a) where
     -- accepted with any number that accepts
     accepted-did : {f : Frame} {xs : List ℕ} {b : Agent} (n : ℕ) → isAccepted n ≡ true → Carries call f xs → Accepts a f xs b → Leaves a call n b
     accepted-did n ok c (heard k) = synced-did good call n (c .amounts n ∙ choose-true _ _ ok) k
-    accepted-did n ok c (read {datl = datl} {add = add} p) =
-        at-due p (Leaves a call n)
-        record { view = takes (viewOf a); did = asked _ (c .amounts n ∙ choose-true _ _ ok) (is-due p (reads datl add) (c .sized .3)) refl; shows = taken-view a }
+    accepted-did n ok c (read {cyc = cyc} {seq = seq} {datl = datl} {add = add} p) =
+        let d : ℕ = distance seq cyc in
+        record { view = takes d (viewOf a); did = asked _ (c .amounts n ∙ choose-true _ _ ok) (in-reach p (reads datl add) (c .sized .3)) refl; shows = taken-view d a }
     accepted-did n ok c (wrote {add = add} {xs = xs} p e) =
-        let s : Span = spanOf add (length xs) in
-        at-due p (λ b. allowed s b add xs ≡ true → Leaves a call n (written s b add xs))
-        (span-did a good call n ok _ (c .amounts n ∙ choose-true _ _ ok) (is-due p (writes add xs) (c .sized .3)) add xs refl (is-laid c) s refl) e
+        span-did a good call n ok _ (c .amounts n ∙ choose-true _ _ ok) (in-reach p (writes add xs) (c .sized .3)) add xs refl (is-laid c) (spanOf add (length xs)) refl e
     accepted-did n ok c (renamed {tid = tid} e) = keeps n (store tidAt tid a) (c .amounts n) (apart-view tidAt (tid ∷ []) a apart-tid)
     accepted-did n ok c (first {src = src} {sec = sec} {mac = mac} {sid = sid} {xs = xs} s none i) = record {
       view = named sid (viewOf a);
@@ -71,18 +68,18 @@ module _ {a : Agent} (good : Good a) where
         record { view = viewOf a; did = acknowledged sid (c .amounts n ∙ choose-true _ _ ok) (ap not some); shows = recorded-view a src some }
 
     kind-did : {f : Frame} {xs : List ℕ} {d : Deed} → Unheeded call → Carries call f xs → KindCase a f xs d → Shown a call d
-    kind-did {f = f} u c (refuses n h) = refused u (isSync f && running a) n h
+    kind-did {f = f} u c (refuses n h) = refused u (isSync f && running a) (skipsBy a f) n h
     kind-did u c (fell e) = fell-did good call u (sync-brings-none c) (wrong-sync c)
     kind-did u c (missed e) = missed-did good call (c .amounts outsideWindow) (sync-brings-none c)
-    kind-did u c (outside {add = add} {xs = xs} p) =
-        at-due p (Leaves a call outsideRules)
-        record { view = takes (viewOf a); did = takenOnly _ (c .amounts outsideRules) (is-due p (writes add xs) (c .sized .3)); shows = taken-view a }
+    kind-did u c (outside {cyc = cyc} {seq = seq} {add = add} {xs = xs} p) =
+        let d : ℕ = distance seq cyc in
+        record { view = takes d (viewOf a); did = takenOnly _ (c .amounts outsideRules) (in-reach p (writes add xs) (c .sized .3)); shows = taken-view d a }
     kind-did u c (accepts e) = accepted-did accepted refl c e
 
     pub frame-did : {body : List ℕ} {d : Deed} → Unheeded call
         → ((f : Frame) → readBody body .verdict ≡ verdict.Valid → readOf body ≡ Valid f → Carries call f (dataIn f (appIn (readBody body))))
         → FrameCase a body d → Shown a call d
-    frame-did {body = body} u c (unread n h) = refused u (readsSync (readOf body) && running a) n h
+    frame-did {body = body} u c (unread n h) = refused u (readsSync (readOf body) && running a) (skipsRead a (readOf body)) n h
     frame-did u c (readAs f v e k) = kind-did u (c f v e) k
 
   -- ---- the calls

@@ -1,5 +1,6 @@
--- A request that is taken is fresh, so one from a concentrator that lost the ring is not taken, nor is a copy, and a
--- request that is not taken changes neither an output nor the mode: of a history of effects. Assumes nothing.
+-- A request that is taken is fresh, so one from a concentrator that lost the ring is not taken, nor is a copy or one whose
+-- number was skipped, and a request that is not taken changes neither an output nor the mode: of a history of effects.
+-- Assumes nothing.
 use mathlib.Core.List.{List, _∷_}
 use mathlib.Core.Option.{Option, some, Option·some-injective}
 use mathlib.Core.Path.{_≡_, refl, sym, _∙_, ap, subst}
@@ -7,7 +8,7 @@ use Prim.Native.Nat.{ℕ}
 use Rattle.demand3.specs.Events.{Event, aTick, aSync, aMissedSync, aRequest, aRefusedWrite, anAssignment, nothing}
 use Rattle.demand3.specs.History.{History, Entry}
 use Rattle.demand3.specs.Sharper.{accepts, Brings, Unchanged, Deposed, by, since, Among, here, there, Sharper}
-use Rattle.demand3.specs.Words.{SyncOf, event, syncAfter, lastSync, taken, Differs, AllDiffer}
+use Rattle.demand3.specs.Words.{SyncOf, event, syncAfter, lastSync, taken, skipped, Differs, AllDiffer}
 use Rattle.demand3.proofs.Device.{HistoryOf}
 use Rattle.demand3.proofs.SafeModules.{safeModule, One, each-call}
 use Rattle.demand3.proofs.Views.{View}
@@ -49,7 +50,7 @@ module _ (h : History) (e : Entry) (o : One h e) (src seq : ℕ) (b : Brings (e 
   deposed-unchanged d =
       o .ignored src seq b
       (λ r src-is seq-is ev. let last = other-last src h d in
-      last .differs (sym src-is ∙ same-source (o .fresh r (accepts ev) .of-sync) (last .last)))
+      last .differs (sym src-is ∙ same-source (o .taken r (accepts ev) .fresh .of-sync) (last .last)))
 
   copy-unchanged : Among seq (taken h) → Unchanged e
   copy-unchanged m =
@@ -57,12 +58,19 @@ module _ (h : History) (e : Entry) (o : One h e) (src seq : ℕ) (b : Brings (e 
       (λ r src-is seq-is ev. let d : AllDiffer (r .seq ∷ taken h) = rw ev at (o .fine .numbers) in
       not-among (r .seq) (taken h) (d .0) (rw seq-is m))
 
--- every request taken is fresh; no request of a deposed concentrator and no copy changes an output or the mode
+  late-unchanged : Among seq (skipped h) → Unchanged e
+  late-unchanged m =
+      o .ignored src seq b
+      (λ r src-is seq-is ev. not-among (r .seq) (skipped h) (o .taken r (accepts ev) .unskipped) (rw seq-is m))
+
+-- every request taken is fresh; no request of a deposed concentrator, no copy and no number skipped changes an output or the mode
 pub sharper : {h : History} {v : View} → HistoryOf safeModule h v → Sharper h
 sharper m =
     let all = each-call m in
     record {
-      fresh = λ past e c. all past e c .fresh;
+      fresh = λ past e c r t. all past e c .taken r t .fresh;
       deposed = λ past e c src seq b. deposed-unchanged past e (all past e c) src seq b;
       copy = λ past e c src seq b. copy-unchanged past e (all past e c) src seq b;
+      unskipped = λ past e c r t. all past e c .taken r t .unskipped;
+      late = λ past e c src seq b. late-unchanged past e (all past e c) src seq b;
     }

@@ -20,7 +20,7 @@ use Rattle.rules.specs.Tick.{silenceEnd}
 use Rattle.rules.specs.declared.Agent.{Agent}
 use Rattle.demand3.specs.Events.{Event, aTick, aSync, aMissedSync, aRequest, aRefusedWrite, anAssignment, nothing, eventOf, ordersRelease, ordersFallback, writesOutputs, Request}
 use Rattle.demand3.specs.Grounds.{WrongSync}
-use Rattle.demand3.specs.Numbers.{window, isAccepted, firstSeq}
+use Rattle.demand3.specs.Numbers.{mostSkipped, window, isAccepted, firstSeq}
 use Rattle.demand3.specs.Sharper.{Brings}
 use Rattle.demand3.proofs.Views.{RegisterView, Cycle, Clocks, View, viewOf, Agree}
 
@@ -62,9 +62,9 @@ restarted x = record { s = x .s; q = x .q; e = 0 }
 abbrev pub nextOne : Cycle → Cycle
 nextOne y = record { last = y .last; heard = unheard; c = (y .c + 1) % 256; k = 0 }
 
--- one request more
-abbrev takenOne : Cycle → Cycle
-takenOne y = record { last = y .last; heard = y .heard; c = y .c; k = y .k + 1 }
+-- the request at the distance d taken
+abbrev pub takenTo : ℕ → Cycle → Cycle
+takenTo d y = record { last = y .last; heard = y .heard; c = y .c; k = d + 1 }
 
 -- one tick, in that mode
 abbrev pub clocksOn : ℕ → Clocks → Clocks
@@ -114,8 +114,8 @@ misses v = withMark isMarked v
 abbrev pub runs : View → View
 runs v = record { mode = inRun; assigned = v .assigned; mark = v .mark; registers = v .registers; cycle = v .cycle; clocks = commanded (v .clocks) }
 
-abbrev pub takes : View → View
-takes v = withCycle (takenOne (v .cycle)) v
+abbrev pub takes : ℕ → View → View
+takes d v = withCycle (takenTo d (v .cycle)) v
 
 abbrev pub limits : ℕ → ℕ → ℕ → View → View
 limits t n m v = withRegisters (withLimits t n m (v .registers)) v
@@ -129,15 +129,17 @@ outputs add xs v = withRegisters (stored add xs (v .registers)) (withClocks (com
 abbrev pub named : ℕ → View → View
 named sid v = record { mode = v .mode; assigned = true; mark = v .mark; registers = withSid sid (v .registers); cycle = v .cycle; clocks = v .clocks }
 
--- a request with the number due
-pub record Due (v : View) (r : Request) : Type 0 where
+-- a request in reach: with the number due or one at most three past it, at the distance d from the first
+pub record InReach (v : View) (r : Request) (d : ℕ) : Type 0 where
   pub last : r .src ≡ v .cycle .last
   pub somebody : v .cycle .last ≡ nobody → ⊥
   pub sid : r .dest ≡ v .registers .sid
   pub heard : v .cycle .heard ≡ isHeard
   pub cyc : r .cyc ≡ v .cycle .c
-  pub seq : r .seq ≡ (firstSeq (v .cycle .c) + v .cycle .k) % 256
-  pub few : v .cycle .k < 256
+  pub low : v .cycle .k ≤ d
+  pub high : d ≤ v .cycle .k + mostSkipped
+  pub seq : r .seq ≡ (firstSeq (v .cycle .c) + d) % 256
+  pub byte : d < 256
 
 -- a tick stays below both limits
 pub record BelowLimits (v : View) : Type 0 where
@@ -186,12 +188,12 @@ pub data Did (v : View) (call : Call) (n : ℕ) (means : Event) : View → Type 
   missed : means ≡ aMissedSync → BringsNone call → Did v call n means (misses v)
   heardOnly : (src cyc : ℕ) → means ≡ aSync src cyc → v .assigned ≡ true → (v .mode ≡ inRun → InTime v) → Did v call n means (hears src cyc v)
   enteredRun : (src cyc : ℕ) → means ≡ aSync src cyc → v .assigned ≡ true → v .mode ≡ inFallback → v .registers .rep ≡ released → Did v call n means (runs (hears src cyc v))
-  takenOnly : (r : Request) → means ≡ aRefusedWrite r → Due v r → Did v call n means (takes v)
-  asked : (r : Request) → means ≡ aRequest r → Due v r → writesOutputs (r .ask) ≡ false → Did v call n means (takes v)
-  configured : (r : Request) (t c m : ℕ) → means ≡ aRequest r → Due v r → writesOutputs (r .ask) ≡ false → v .mode ≡ inFallback → Did v call n means (limits t c m (takes v))
-  releasedBy : (r : Request) → means ≡ aRequest r → Due v r → writesOutputs (r .ask) ≡ false → ordersRelease (r .ask) ≡ true → Did v call n means (releases (takes v))
-  withdrawn : (r : Request) → means ≡ aRequest r → Due v r → writesOutputs (r .ask) ≡ false → ordersFallback (r .ask) ≡ true → Did v call n means (fallen byOrder (takes v))
-  output : (r : Request) (add : ℕ) (xs : List ℕ) → isAccepted n ≡ true → means ≡ aRequest r → Due v r → writesOutputs (r .ask) ≡ true → v .mode ≡ inRun → LaidWrite call r add xs → Did v call n means (outputs add xs (takes v))
+  takenOnly : (r : Request) {d : ℕ} → means ≡ aRefusedWrite r → InReach v r d → Did v call n means (takes d v)
+  asked : (r : Request) {d : ℕ} → means ≡ aRequest r → InReach v r d → writesOutputs (r .ask) ≡ false → Did v call n means (takes d v)
+  configured : (r : Request) (t c m : ℕ) {d : ℕ} → means ≡ aRequest r → InReach v r d → writesOutputs (r .ask) ≡ false → v .mode ≡ inFallback → Did v call n means (limits t c m (takes d v))
+  releasedBy : (r : Request) {d : ℕ} → means ≡ aRequest r → InReach v r d → writesOutputs (r .ask) ≡ false → ordersRelease (r .ask) ≡ true → Did v call n means (releases (takes d v))
+  withdrawn : (r : Request) {d : ℕ} → means ≡ aRequest r → InReach v r d → writesOutputs (r .ask) ≡ false → ordersFallback (r .ask) ≡ true → Did v call n means (fallen byOrder (takes d v))
+  output : (r : Request) (add : ℕ) (xs : List ℕ) {d : ℕ} → isAccepted n ≡ true → means ≡ aRequest r → InReach v r d → writesOutputs (r .ask) ≡ true → v .mode ≡ inRun → LaidWrite call r add xs → Did v call n means (outputs add xs (takes d v))
   namedFirst : (sid : ℕ) → means ≡ anAssignment sid → v .assigned ≡ false → Did v call n means (named sid v)
   acknowledged : (sid : ℕ) → means ≡ anAssignment sid → v .assigned ≡ true → Did v call n means v
 

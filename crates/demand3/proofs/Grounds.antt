@@ -90,12 +90,12 @@ module _ (h : History) (v : View) (f : Facts v) (made : HistoryOf safeModule h v
         by-effect (missed e none-asked) m x = stays (λ run. m ∙ run) x
         by-effect (heardOnly src cyc e known timely) m x = stays (λ run. m ∙ run) x
         by-effect (enteredRun src cyc e known p q) m x = stays (λ run. m) x
-        by-effect (takenOnly r e due) m x = stays (λ run. m ∙ run) x
-        by-effect (asked r e due w) m x = stays (λ run. m ∙ run) x
-        by-effect (configured r t y z e due w p) m x = stays (λ run. m ∙ run) x
-        by-effect (releasedBy r e due w o) m x = stays (λ run. m ∙ run) x
-        by-effect (withdrawn r e due w o) m x = falls byOrder m x (λ run. ordered record { request = r; accepted = e; order = o })
-        by-effect (output r add xs ok e due w run laid) m x = stays (λ run. m ∙ run) x
+        by-effect (takenOnly r e reach) m x = stays (λ run. m ∙ run) x
+        by-effect (asked r e reach w) m x = stays (λ run. m ∙ run) x
+        by-effect (configured r t y z e reach w p) m x = stays (λ run. m ∙ run) x
+        by-effect (releasedBy r e reach w o) m x = stays (λ run. m ∙ run) x
+        by-effect (withdrawn r e reach w o) m x = falls byOrder m x (λ run. ordered record { request = r; accepted = e; order = o })
+        by-effect (output r add xs ok e reach w run laid) m x = stays (λ run. m ∙ run) x
         by-effect (namedFirst sid e no-one) m x = stays (λ run. m ∙ run) x
         by-effect (acknowledged sid e named-is) m x = stays (λ run. m ∙ run) x
 

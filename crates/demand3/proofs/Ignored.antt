@@ -40,11 +40,11 @@ module _ (v u : View) (call : Call) (n : ℕ) (means : Event) (src seq : ℕ) (b
   unchanged-by (missed e none) a = absurd (none src seq b)
   unchanged-by (heardOnly s c e known timely) a = absurd (subst (MeansAsked src seq) e m)
   unchanged-by (enteredRun s c e known p q) a = absurd (subst (MeansAsked src seq) e m)
-  unchanged-by (takenOnly r e due) a = record { outputs = a .registers .out; mode = a .mode }
-  unchanged-by (asked r e due w) a = absurd (accepted-so r e)
-  unchanged-by (configured r t c l e due w p) a = absurd (accepted-so r e)
-  unchanged-by (releasedBy r e due w o) a = absurd (accepted-so r e)
-  unchanged-by (withdrawn r e due w o) a = absurd (accepted-so r e)
-  unchanged-by (output r add xs ok e due w run laid) a = absurd (accepted-so r e)
+  unchanged-by (takenOnly r e reach) a = record { outputs = a .registers .out; mode = a .mode }
+  unchanged-by (asked r e reach w) a = absurd (accepted-so r e)
+  unchanged-by (configured r t c l e reach w p) a = absurd (accepted-so r e)
+  unchanged-by (releasedBy r e reach w o) a = absurd (accepted-so r e)
+  unchanged-by (withdrawn r e reach w o) a = absurd (accepted-so r e)
+  unchanged-by (output r add xs ok e reach w run laid) a = absurd (accepted-so r e)
   unchanged-by (namedFirst sid e no-one) a = absurd (subst (MeansAsked src seq) e m)
   unchanged-by (acknowledged sid e named-is) a = absurd (subst (MeansAsked src seq) e m)

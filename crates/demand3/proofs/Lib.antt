@@ -3,6 +3,7 @@ pub mod Views
 pub mod Effects
 pub mod RegisterViews
 pub mod AgentViews
+pub mod AgreeingViews
 pub mod ViewFacts
 pub mod FrameEvents
 pub mod Steps
@@ -34,6 +35,7 @@ pub mod Grounds
 pub mod Proved
 pub mod Refuses
 pub mod RefusesWrites
+pub mod RefusesSkips
 pub mod RefusesData
 pub mod RefusesTimes
 pub mod RefusesGrounds

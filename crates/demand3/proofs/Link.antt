@@ -15,7 +15,7 @@ use Rattle.demand3.specs.Claim.{Safe, OutputsRight, same, fell}
 use Rattle.demand3.specs.Events.{Event, aTick, aSync, aMissedSync, aRequest, aRefusedWrite, anAssignment, nothing, Request}
 use Rattle.demand3.specs.History.{History, _▸_, Entry, Seen}
 use Rattle.demand3.specs.Sharper.{Takes, accepts, refuses, Fresh}
-use Rattle.demand3.specs.Words.{SyncOf, event, lastSync, ownSid, taken, idle, AllDiffer, LeavesRun, TickAtCommandLimit}
+use Rattle.demand3.specs.Words.{SyncOf, event, lastSync, ownSid, taken, skipped, idle, Differs, AllDiffer, LeavesRun, TickAtCommandLimit}
 use Rattle.demand3.proofs.Numbering.{Numbering}
 use Rattle.demand3.proofs.Views.{View, Facts}
 
@@ -31,14 +31,14 @@ pub record Naming (assigned : Bool) (sid : ℕ) (I : Option ℕ) : Type 0 where
   pub known : assigned ≡ true → I ≡ some sid
   pub unknown : assigned ≡ false → I ≡ none
 
--- a view against what the history says of: the last sync, the own SID, the numbers taken, the silence of commands
-pub record Link (Y : Option SyncOf) (I : Option ℕ) (tk : List ℕ) (idl : ℕ) (v : View) : Type 0 where
+-- a view against what the history says of: the last sync, the own SID, the numbers taken and skipped, the silence of commands
+pub record Link (Y : Option SyncOf) (I : Option ℕ) (tk sk : List ℕ) (idl : ℕ) (v : View) : Type 0 where
   pub idle : v .mode ≡ inRun → v .clocks .q ≡ idl
-  pub numbering : Numbering (v .cycle .heard) (v .cycle .c) (v .cycle .k) (v .cycle .last) Y tk
+  pub numbering : Numbering (v .cycle .heard) (v .cycle .c) (v .cycle .k) (v .cycle .last) Y tk sk
   pub naming : Naming (v .assigned) (v .registers .sid) I
 
 abbrev pub Linked : History → View → Type 0
-Linked h v = Link (lastSync h) (ownSid h) (taken h) (idle h) v
+Linked h v = Link (lastSync h) (ownSid h) (taken h) (skipped h) (idle h) v
 
 -- what the claim says of one call, but for what is bounded
 pub record Fine (h : History) (e : Entry) : Type 0 where
@@ -47,10 +47,15 @@ pub record Fine (h : History) (e : Entry) : Type 0 where
   pub numbers : AllDiffer (taken (h ▸ e))
   pub command-silence : TickAtCommandLimit h e → Safe (e .after)
 
--- a call is fine, a request that it takes is fresh, and the link is kept
+-- a request that is taken is fresh, and its number was not skipped before
+pub record Taken (h : History) (r : Request) : Type 0 where
+  pub fresh : Fresh h r
+  pub unskipped : Differs (r .seq) (skipped h)
+
+-- a call is fine, so is a request that it takes, and the link is kept
 pub record Kept (h : History) (v : View) (call : Call) (n : ℕ) (means : Event) (w : View) : Type 0 where
   pub fine : Fine h (viewEntry v call n means w)
-  pub fresh : (r : Request) → Takes (viewEntry v call n means w) r → Fresh h r
+  pub taken : (r : Request) → Takes (viewEntry v call n means w) r → Taken h r
   pub link : Linked (h ▸ viewEntry v call n means w) w
 
 -- ---- modes and events
@@ -87,7 +92,7 @@ NoRequest (anAssignment sid) = Unit {0}
 NoRequest nothing = Unit {0}
 
 -- a call that is no request takes none
-pub takes-none : {e : Entry} {h : History} (w : Event) → NoRequest w → event e ≡ w → (r : Request) → Takes e r → Fresh h r
+pub takes-none : {e : Entry} {h : History} (w : Event) → NoRequest w → event e ≡ w → (r : Request) → Takes e r → Taken h r
 takes-none w n p r (accepts q) = absurd (subst NoRequest (sym p ∙ q) n)
 takes-none w n p r (refuses q) = absurd (subst NoRequest (sym p ∙ q) n)
 

@@ -29,11 +29,11 @@ module _ (v u : View) (f : Facts v) (call : Call) {n : ℕ} {means : Event} wher
   moved (missed ev none) a = moves.kept (quiet aMissedSync tt ev) (same-silence a) record { mode = a .mode; rep = a .registers .rep }
   moved (heardOnly src cyc ev known timely) a = moves.heardOnly src cyc ev (same-silence a) record { mode = a .mode; rep = a .registers .rep }
   moved (enteredRun src cyc ev known p q) a = moves.enteredRun src cyc ev (same-silence a) p q (a .mode)
-  moved (takenOnly r ev due) a = moves.kept (quiet (aRefusedWrite r) tt ev) (same-silence a) record { mode = a .mode; rep = a .registers .rep }
-  moved (asked r ev due w) a = moves.kept (quiet (aRequest r) tt ev) (same-silence a) record { mode = a .mode; rep = a .registers .rep }
-  moved (configured r t c m ev due w p) a = moves.kept (quiet (aRequest r) tt ev) (same-silence a) record { mode = a .mode; rep = a .registers .rep }
-  moved (releasedBy r ev due w o) a = moves.released r ev o (same-silence a) (a .mode)
-  moved (withdrawn r ev due w o) a = moves.fell (quiet (aRequest r) tt ev) (same-silence a) (a .registers .rep) (a .mode)
-  moved (output r add xs zero ev due w run laid) a = moves.kept (quiet (aRequest r) tt ev) (same-silence a) record { mode = a .mode; rep = a .registers .rep }
+  moved (takenOnly r ev reach) a = moves.kept (quiet (aRefusedWrite r) tt ev) (same-silence a) record { mode = a .mode; rep = a .registers .rep }
+  moved (asked r ev reach w) a = moves.kept (quiet (aRequest r) tt ev) (same-silence a) record { mode = a .mode; rep = a .registers .rep }
+  moved (configured r t c m ev reach w p) a = moves.kept (quiet (aRequest r) tt ev) (same-silence a) record { mode = a .mode; rep = a .registers .rep }
+  moved (releasedBy r ev reach w o) a = moves.released r ev o (same-silence a) (a .mode)
+  moved (withdrawn r ev reach w o) a = moves.fell (quiet (aRequest r) tt ev) (same-silence a) (a .registers .rep) (a .mode)
+  moved (output r add xs zero ev reach w run laid) a = moves.kept (quiet (aRequest r) tt ev) (same-silence a) record { mode = a .mode; rep = a .registers .rep }
   moved (namedFirst sid ev no-one) a = moves.kept (quiet (anAssignment sid) tt ev) (same-silence a) record { mode = a .mode; rep = a .registers .rep }
   moved (acknowledged sid ev named-is) a = moves.kept (quiet (anAssignment sid) tt ev) (same-silence a) record { mode = a .mode; rep = a .registers .rep }

@@ -59,12 +59,12 @@ module _ (v u : View) (f : Facts v) where
         moves.synced src cyc ev (λ run. window-of v (timely run)) (rw (a .registers .t) (f .t-set)) (same-elapsed a) (same-heard a) (a .mark)
     moved (enteredRun src cyc ev known p q) a =
         moves.synced src cyc ev (λ run. absurd (not-both (v .mode) run p)) (rw (a .registers .t) (f .t-set)) (same-elapsed a) (same-heard a) (a .mark)
-    moved (takenOnly r ev due) a = still (other (aRefusedWrite r) tt ev) a refl refl refl refl
-    moved (asked r ev due w) a = still (other (aRequest r) tt ev) a refl refl refl refl
-    moved (configured r t c m ev due w p) a = still (other (aRequest r) tt ev) a refl refl refl refl
-    moved (releasedBy r ev due w o) a = still (other (aRequest r) tt ev) a refl refl refl refl
-    moved (withdrawn r ev due w o) a = moves.fell (other (aRequest r) tt ev) (a .mode)
-    moved (output r add xs zero ev due w run laid) a = still (other (aRequest r) tt ev) a refl refl refl refl
+    moved (takenOnly r ev reach) a = still (other (aRefusedWrite r) tt ev) a refl refl refl refl
+    moved (asked r ev reach w) a = still (other (aRequest r) tt ev) a refl refl refl refl
+    moved (configured r t c m ev reach w p) a = still (other (aRequest r) tt ev) a refl refl refl refl
+    moved (releasedBy r ev reach w o) a = still (other (aRequest r) tt ev) a refl refl refl refl
+    moved (withdrawn r ev reach w o) a = moves.fell (other (aRequest r) tt ev) (a .mode)
+    moved (output r add xs zero ev reach w run laid) a = still (other (aRequest r) tt ev) a refl refl refl refl
     moved (namedFirst sid ev no-one) a = still (other (anAssignment sid) tt ev) a refl refl refl refl
     moved (acknowledged sid ev named-is) a = still (other (anAssignment sid) tt ev) a refl refl refl refl
 
@@ -79,11 +79,11 @@ module _ (v u : View) (f : Facts v) where
     steady (missed ev none) a run = a .registers .t
     steady (heardOnly src cyc ev known timely) a run = a .registers .t
     steady (enteredRun src cyc ev known p q) a run = a .registers .t
-    steady (takenOnly r ev due) a run = a .registers .t
-    steady (asked r ev due w) a run = a .registers .t
-    steady (configured r t c m ev due w p) a run = absurd (not-both (v .mode) run p)
-    steady (releasedBy r ev due w o) a run = a .registers .t
-    steady (withdrawn r ev due w o) a run = a .registers .t
-    steady (output r add xs zero ev due w run laid) a _ = a .registers .t
+    steady (takenOnly r ev reach) a run = a .registers .t
+    steady (asked r ev reach w) a run = a .registers .t
+    steady (configured r t c m ev reach w p) a run = absurd (not-both (v .mode) run p)
+    steady (releasedBy r ev reach w o) a run = a .registers .t
+    steady (withdrawn r ev reach w o) a run = a .registers .t
+    steady (output r add xs zero ev reach w run laid) a _ = a .registers .t
     steady (namedFirst sid ev no-one) a run = a .registers .t
     steady (acknowledged sid ev named-is) a run = a .registers .t

@@ -13,13 +13,13 @@ use Rattle.demand3.specs.Claim.{Everywhere, Holds}
 use Rattle.demand3.specs.Events.{Event, Request}
 use Rattle.demand3.specs.History.{History, powerOn, Entry}
 use Rattle.demand3.specs.Numbers.{unsound}
-use Rattle.demand3.specs.Sharper.{Takes, Fresh, Brings}
+use Rattle.demand3.specs.Sharper.{Takes, Brings}
 use Rattle.demand3.proofs.BoundedModules.{StartsBounded, CallBounded, boundedModule, bounded}
 use Rattle.demand3.proofs.Device.{Device, HistoryOf, after-all, of-each, does-as}
 use Rattle.demand3.proofs.Effects.{Did}
 use Rattle.demand3.proofs.Ignored.{MeansAsked, Ignored, unchanged-by}
 use Rattle.demand3.proofs.KeptAll.{kept-by}
-use Rattle.demand3.proofs.Link.{Linked, Kept, Fine, viewSeen, viewEntry}
+use Rattle.demand3.proofs.Link.{Linked, Taken, Kept, Fine, viewSeen, viewEntry}
 use Rattle.demand3.proofs.Numbering.{when-unheard}
 use Rattle.demand3.proofs.SafeIsBounded.{watchdogOf, moved}
 use Rattle.demand3.proofs.SafeIsTimed.{timerOf, steady}
@@ -67,7 +67,7 @@ call-timed v u call n means s =
 start-link : (v : View) → StartsSafe v → Linked powerOn v
 start-link v s = record {
   idle = λ p. absurd (omega (arith, s .mode));
-  numbering = rw (s .heard) (when-unheard _ _ _ _ _ tt);
+  numbering = rw (s .heard) (when-unheard _ _ _ _ _ _ tt);
   naming = record { known = λ p. never (sym (s .assigned) ∙ p); unknown = λ p. refl };
 }
 
@@ -87,7 +87,7 @@ as-timed = does-as safeModule timedModule timerOf (λ v. refl) (λ v s. s .mode)
 -- what is known of one call
 pub record One (h : History) (e : Entry) : Type 0 where
   pub fine : Fine h e
-  pub fresh : (r : Request) → Takes e r → Fresh h r
+  pub taken : (r : Request) → Takes e r → Taken h r
   pub ignored : Ignored e
 
 known : (h : History) (v u : View) (call : Call) (n : ℕ) (means : Event) → CallSafe v call n means u → Linked h v → One h (viewEntry v call n means u)
@@ -95,7 +95,7 @@ known h v u call n means s l =
     let k = call-kept h v u call n means s l in
     record {
       fine = k .fine;
-      fresh = k .fresh;
+      taken = k .taken;
       ignored = λ src seq b not-so. unchanged-by v u call n means src seq b (s .asked src seq b) not-so (s .did) (s .shows);
     }
 

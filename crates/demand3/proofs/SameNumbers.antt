@@ -24,7 +24,7 @@ use Rattle.rules.specs.declared.Span.{Span}
 use Rattle.rules.specs.declared.Span.the-variants.{Release, CycleTime, Limits, Counters, Config, Outputs, Outside}
 use Rattle.rules.proofs.SoundParts.{fits-is}
 use Rattle.rules.proofs.Spans.{InSpan, in-span}
-use Rattle.demand3.specs.Numbers.{inRun, inFallback, tcyc, cnfRep, cnfCyc, groundAt, outputsAt, lastOutput, image, isLimit, window, noGround, bySyncSilence, byCommandSilence, byWrongCycle, byOrder, byWindow, accepted, cycle, outsideRules, unsound, outsideWindow, isAccepted, firstSeq, writesRelease, writesFallback, writesWithinOutputs}
+use Rattle.demand3.specs.Numbers.{inRun, inFallback, tcyc, cnfRep, cnfCyc, groundAt, outputsAt, lastOutput, image, isLimit, mostSkipped, window, noGround, bySyncSilence, byCommandSilence, byWrongCycle, byOrder, byWindow, accepted, cycle, outsideRules, unsound, outsideWindow, isAccepted, firstSeq, writesRelease, writesFallback, writesWithinOutputs}
 
 pub same-modes : (inRun ≡ State.inRun) × (inFallback ≡ State.inFallback)
 same-modes = (refl, refl)
@@ -46,6 +46,9 @@ same-first-seq cyc = refl
 
 pub same-limit : (fixed : Fixed) → isLimit (fixed .limit) ≡ Limit.fits fixed
 same-limit fixed = sym (fits-is fixed)
+
+pub same-most-skipped : mostSkipped ≡ Requests.mostSkipped
+same-most-skipped = refl
 
 pub same-window : (t : ℕ) → window t ≡ width t
 unfolding width

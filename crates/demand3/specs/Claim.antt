@@ -15,7 +15,7 @@ use Rattle.rules.specs.declared.Fixed.{Fixed}
 use Rattle.demand3.specs.Events.{aSync}
 use Rattle.demand3.specs.History.{History, powerOn, _▸_, Entry, Seen, history}
 use Rattle.demand3.specs.Numbers.{inRun, inFallback, outputsAt, image, isLimit, window, isAccepted, unsound}
-use Rattle.demand3.specs.Words.{SyncOf, event, lastSync, ownSid, taken, numberDue, AllDiffer, silence, LeavesRun, EntersRun, TickAtSyncLimit, TickAtCommandLimit, TickAtWindowLimit, SyncInRun, Released}
+use Rattle.demand3.specs.Words.{SyncOf, event, lastSync, ownSid, taken, numberDue, FreshNumber, AllDiffer, silence, LeavesRun, EntersRun, TickAtSyncLimit, TickAtCommandLimit, TickAtWindowLimit, SyncInRun, Released}
 
 -- in fallback, outputs zero
 pub record Safe (x : Seen) : Type 0 where
@@ -23,8 +23,8 @@ pub record Safe (x : Seen) : Type 0 where
   pub zero : (i : ℕ) → i < image → x .out i ≡ 0
 
 -- an accepted write in RUN: the body is exactly the one laid down for that write (so both checks are right), to the own
--- SID, from the source and with the cycle of the last accepted sync, with the number due; it changes only the bytes it
--- covers, to its data
+-- SID, from the source and with the cycle of the last accepted sync, with a fresh number: the one due or at most three past
+-- it; it changes only the bytes it covers, to its data
 pub record Written (h : History) (e : Entry) : Type 0 where
   pub port : ℕ
   pub body : List ℕ
@@ -44,7 +44,7 @@ pub record Written (h : History) (e : Entry) : Type 0 where
   pub length-is : length xs ≡ datl
   pub own : ownSid h ≡ some dest
   pub of-sync : lastSync h ≡ some (src, cyc)
-  pub due : numberDue h ≡ some seq
+  pub fresh : FreshNumber (numberDue h) seq
   pub covered : (i : ℕ) → i < image → add ≤ outputsAt + i → outputsAt + i < add + length xs → e .after .out i ≡ getD xs (outputsAt + i - add) 0
   pub before : (i : ℕ) → i < image → outputsAt + i < add → e .after .out i ≡ e .before .out i
   pub behind : (i : ℕ) → i < image → add + length xs ≤ outputsAt + i → e .after .out i ≡ e .before .out i

@@ -40,6 +40,10 @@ image = 64
 abbrev pub isLimit : ℕ → Bool
 isLimit n = eqb n 16 || eqb n 64
 
+-- how many numbers a request may skip
+abbrev pub mostSkipped : ℕ
+mostSkipped = 3
+
 -- w, the width of a sync's window: TCYC / 8 rounded down, at least 1
 abbrev pub window : ℕ → ℕ
 window t = max 1 (t / 8)

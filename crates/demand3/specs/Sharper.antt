@@ -1,6 +1,6 @@
 -- What demand 3 means for the concentrators on the ring: a request is taken only if it is fresh; one from a
--- concentrator that lost the ring, or a copy of one already taken, changes neither an output nor the mode.
--- Assumes nothing.
+-- concentrator that lost the ring, a copy of one already taken, or one whose number was skipped, changes neither an output
+-- nor the mode. Assumes nothing.
 use mathlib.Core.Bool.{true}
 use mathlib.Core.List.{List, _∷_}
 use mathlib.Core.Option.{some}
@@ -16,7 +16,7 @@ use Rattle.demand3.specs.Claim.{Everywhere, BytesCalls}
 use Rattle.demand3.specs.Events.{Request, aSync, aRequest, aRefusedWrite}
 use Rattle.demand3.specs.History.{History, powerOn, _▸_, Entry, history}
 use Rattle.demand3.specs.Numbers.{image, isLimit}
-use Rattle.demand3.specs.Words.{event, lastSync, ownSid, taken, numberDue}
+use Rattle.demand3.specs.Words.{event, lastSync, ownSid, taken, numberDue, FreshNumber, skipped, Differs}
 
 -- ---- every request that is taken is fresh
 
@@ -25,11 +25,12 @@ pub data Takes (e : Entry) (r : Request) : Type 0 where
   accepts : event e ≡ aRequest r → Takes e r
   refuses : event e ≡ aRefusedWrite r → Takes e r
 
--- to the own SID, from the source and with the cycle of the last accepted sync, with the number due
+-- to the own SID, from the source and with the cycle of the last accepted sync, with the number due or one at most three
+-- past it
 pub record Fresh (h : History) (r : Request) : Type 0 where
   pub own : ownSid h ≡ some (r .dest)
   pub of-sync : lastSync h ≡ some (r .src, r .cyc)
-  pub due : numberDue h ≡ some (r .seq)
+  pub fresh : FreshNumber (numberDue h) (r .seq)
 
 -- ---- what a call brings, whatever the answer
 
@@ -60,7 +61,7 @@ pub data Deposed (src : ℕ) : History → Type 0 where
   by : {h : History} {e : Entry} (other cyc : ℕ) → event e ≡ aSync other cyc → (src ≡ other → ⊥) → Deposed src (h ▸ e)
   since : {h : History} {e : Entry} → Deposed src h → ((cyc : ℕ) → event e ≡ aSync src cyc → ⊥) → Deposed src (h ▸ e)
 
--- ---- copies
+-- ---- copies, and numbers skipped
 
 -- x is in the list
 pub data Among (x : ℕ) : List ℕ → Type 0 where
@@ -77,6 +78,10 @@ pub record Sharper (h : History) : Type 0 where
   pub deposed : Everywhere (λ past e. (src seq : ℕ) → Brings (e .call) src seq → Deposed src past → Unchanged e) h
   -- a request with a SEQ already taken since the last accepted sync, as a copy on either port has, changes neither
   pub copy : Everywhere (λ past e. (src seq : ℕ) → Brings (e .call) src seq → Among seq (taken past) → Unchanged e) h
+  -- no request taken has a SEQ skipped since the last accepted sync
+  pub unskipped : Everywhere (λ past e. (r : Request) → Takes e r → Differs (r .seq) (skipped past)) h
+  -- a request with such a SEQ changes neither
+  pub late : Everywhere (λ past e. (src seq : ℕ) → Brings (e .call) src seq → Among seq (skipped past) → Unchanged e) h
 
 -- for every MAC, IID and VER, a limit of requests that is 16 or 64, and every list of calls from power-up
 abbrev pub Sharpened : Type 0

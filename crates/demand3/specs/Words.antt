@@ -3,12 +3,12 @@ use mathlib.Core.Bool.{true}
 use mathlib.Core.List.{List, [], _∷_}
 use mathlib.Core.Option.{Option, none, some}
 use mathlib.Core.Path.{_≡_}
-use Prim.Native.Nat.{ℕ, _+_, _*_, _%_, _≤_}
+use Prim.Native.Nat.{ℕ, zero, suc, _+_, _-_, _*_, _%_, _≤_}
 use lib.Dec.{eqb}
 use Rattle.base.specs.Choice.{choose}
 use Rattle.demand3.specs.Events.{Event, aTick, aSync, aMissedSync, aRequest, aRefusedWrite, anAssignment, nothing, ordersRelease, writesOutputs, Request}
 use Rattle.demand3.specs.History.{History, powerOn, _▸_, Entry}
-use Rattle.demand3.specs.Numbers.{inRun, inFallback, firstSeq}
+use Rattle.demand3.specs.Numbers.{inRun, inFallback, mostSkipped, firstSeq}
 
 abbrev pub event : Entry → Event
 event e = e .event
@@ -69,6 +69,36 @@ dueAfter (some y) (x ∷ l) = some ((x + 1) % 256)
 
 abbrev pub numberDue : History → Option ℕ
 numberDue h = dueAfter (lastSync h) (taken h)
+
+-- a fresh number: the number due or one at most three past it, modulo 256
+pub record FreshNumber (number-due : Option ℕ) (seq : ℕ) : Type 0 where
+  pub due : ℕ
+  pub is-due : number-due ≡ some due
+  pub past : ℕ
+  pub few : past ≤ mostSkipped
+  pub number : seq ≡ (due + past) % 256
+
+-- the numbers skipped since the last accepted sync: for each request taken, those from the one due up to its own, without its own
+abbrev pub numbersFrom : (count first : ℕ) → List ℕ → List ℕ
+numbersFrom zero x l = l
+numbersFrom (suc n) x l = x ∷ numbersFrom n ((x + 1) % 256) l
+
+abbrev pub skippedBy : Option ℕ → ℕ → List ℕ → List ℕ
+skippedBy none seq l = l
+skippedBy (some due) seq l = numbersFrom ((seq + 256 - due) % 256) due l
+
+abbrev pub skippedAfter : Event → Option ℕ → List ℕ → List ℕ
+skippedAfter aTick due l = l
+skippedAfter (aSync src cyc) due l = []
+skippedAfter aMissedSync due l = l
+skippedAfter (aRequest r) due l = skippedBy due (r .seq) l
+skippedAfter (aRefusedWrite r) due l = skippedBy due (r .seq) l
+skippedAfter (anAssignment sid) due l = l
+skippedAfter nothing due l = l
+
+abbrev pub skipped : History → List ℕ
+skipped powerOn = []
+skipped (h ▸ e) = skippedAfter (event e) (numberDue h) (skipped h)
 
 -- all differ
 abbrev pub Differs : ℕ → List ℕ → Type 0

@@ -3,7 +3,7 @@
 use mathlib.Core.Bool.{Bool, true, false, _&&_, _||_}
 use mathlib.Core.List.{List, [], _∷_}
 use mathlib.Core.Path.{_≡_, refl, sym, _∙_}
-use Prim.Native.Nat.{ℕ}
+use Prim.Native.Nat.{ℕ, zero, suc, _+_}
 use native.Mathlib.Omega.{arith}
 use borrow.Author.Tests.{eqb-false, leb-false}
 use lib.Bits.{bitOr}
@@ -15,10 +15,10 @@ use Rattle.base.proofs.Choosing.{never, or-left-false, or-right-false}
 use Rattle.base.proofs.Stored.{stored-before, stored-behind}
 use Rattle.rules.specs.Fallback.{withheld, groundAfter, enterFallback}
 use Rattle.rules.specs.Grounds.{byWrongCycle}
-use Rattle.rules.specs.Marks.{counter, lineMarked, formatMarked, sequenceMarked, windowMarked}
-use Rattle.rules.specs.Refusals.{Change, nothing, lineMark, formatMark, sequenceMark, sequenceFall, windowMark, oneTaken, changed, namesRegister, ButFor}
+use Rattle.rules.specs.Marks.{counter, counterBy, lineMarked, formatMarked, sequenceMarked, skipMarked, windowMarked}
+use Rattle.rules.specs.Refusals.{Change, nothing, lineMark, formatMark, sequenceMark, sequenceFall, windowMark, requestTaken, changed, namesRegister, namesTaken, ButFor}
 use Rattle.rules.specs.Registers.{outRep, statut, cptSeq, cptFor, groundAt, outputsAt, image}
-use Rattle.rules.specs.State.{reg, store, withRegs}
+use Rattle.rules.specs.State.{reg, store, withRegs, withTaken}
 use Rattle.rules.specs.declared.Agent.{Agent}
 
 -- a register that is not stored to
@@ -50,6 +50,14 @@ module _ (a : Agent) where
   sequence-others i e h =
       other-stored cptSeq (counter (reg a cptSeq)) (store statut (bitOr (reg a statut) 0x02) a) i h
       ∙ other-stored statut (bitOr (reg a statut) 0x02) a i e
+
+  skip-others : (n i : ℕ) → namesRegister (requestTaken n) i ≡ false → reg (skipMarked n a) i ≡ reg a i
+  unfolding skipMarked
+  skip-others zero i e = refl
+  skip-others (suc n) i e =
+      let x : ℕ = bitOr (reg a statut) 0x02 in
+      other-stored cptSeq (counterBy (suc n) (reg a cptSeq)) (store statut x a) i (or-right-false (eqb i statut) (eqb i cptSeq) e)
+      ∙ other-stored statut x a i (or-left-false (eqb i statut) (eqb i cptSeq) e)
 
   window-others : (i : ℕ) → eqb i statut ≡ false → reg (windowMarked a) i ≡ reg a i
   unfolding windowMarked
@@ -96,6 +104,13 @@ module _ (a : Agent) where
       length-sets (store statut (bitOr (reg a statut) 0x02) a .regs) cptSeq (counter (reg a cptSeq) ∷ [])
       ∙ length-sets (a .regs) statut (bitOr (reg a statut) 0x02 ∷ [])
 
+  skip-size : (n : ℕ) → length (skipMarked n a .regs) ≡ length (a .regs)
+  unfolding skipMarked
+  skip-size zero = refl
+  skip-size (suc n) =
+      length-sets (store statut (bitOr (reg a statut) 0x02) a .regs) cptSeq (counterBy (suc n) (reg a cptSeq) ∷ [])
+      ∙ length-sets (a .regs) statut (bitOr (reg a statut) 0x02 ∷ [])
+
   window-size : length (windowMarked a .regs) ≡ length (a .regs)
   unfolding windowMarked
   window-size = length-sets (a .regs) statut (bitOr (reg a statut) 0x02 ∷ [])
@@ -122,6 +137,31 @@ module _ (a : Agent) where
       fallback-others (sequenceMarked a) byWrongCycle i st (or-left-false (eqb i outRep) last rest)
       (or-left-false (eqb i groundAt) (within 0x80 0xBF i) end) (or-right-false (eqb i groundAt) (within 0x80 0xBF i) end)
       ∙ sequence-others a i st (or-left-false (eqb i cptSeq) (eqb i outRep || last) past)
+
+-- a change of registers and k
+and-taken : (c : Change) (a : Agent) (r : List ℕ) (k : ℕ) → namesTaken c ≡ true → ((i : ℕ) → namesRegister c i ≡ false → getD r i 0 ≡ reg a i)
+    → length r ≡ length (a .regs) → ButFor c a (withTaken k (withRegs r a))
+and-taken c a r k t h l = record {
+  registers = h;
+  size = l;
+  mode = λ e. refl;
+  q = λ e. refl;
+  k = λ e. never (sym e ∙ t);
+  mark = λ e. refl;
+  c = refl;
+  heard = refl;
+  e = refl;
+  s = refl;
+  last-source = refl;
+  recorded = refl;
+  recorded-count = refl;
+  fixed = refl;
+}
+
+skip-but : (a : Agent) (n : ℕ) → ButFor (requestTaken n) a (withTaken (a .taken + n + 1) (skipMarked n a))
+unfolding skipMarked
+skip-but a zero = and-taken (requestTaken zero) a (a .regs) (a .taken + zero + 1) refl (skip-others a zero) refl
+skip-but a (suc n) = and-taken (requestTaken (suc n)) a (skipMarked (suc n) a .regs) (a .taken + suc n + 1) refl (skip-others a (suc n)) (skip-size a (suc n))
 
 module _ (a : Agent) where
   pub but-for : (c : Change) → ButFor c a (changed c a)
@@ -163,19 +203,4 @@ module _ (a : Agent) where
     recorded-count = refl;
     fixed = refl;
   }
-  but-for oneTaken = record {
-    registers = λ i e. refl;
-    size = refl;
-    mode = λ e. refl;
-    q = λ e. refl;
-    k = λ e. never (sym e);
-    mark = λ e. refl;
-    c = refl;
-    heard = refl;
-    e = refl;
-    s = refl;
-    last-source = refl;
-    recorded = refl;
-    recorded-count = refl;
-    fixed = refl;
-  }
+  but-for (requestTaken skips) = skip-but a skips

@@ -3,8 +3,7 @@
 use mathlib.Core.Bool.{Bool, true, false, not, _&&_, _||_}
 use mathlib.Core.List.{List}
 use mathlib.Core.Path.{_≡_, refl, sym, ap, subst}
-use Prim.Native.Nat.{ℕ, _+_, _<_}
-use native.Mathlib.Omega.{arith}
+use Prim.Native.Nat.{ℕ, _+_, _≤_, _<_}
 use borrow.Author.Tests.{eqb-true, eqb-false, ltb-false, leb-false, not-false}
 use lib.Bits.{bitAnd}
 use lib.Dec.{eqb, leb, ltb}
@@ -29,12 +28,12 @@ use Rattle.rules.specs.FrameCall.{onKind, onRead, isOwn, onApp, onVerdic
 use Rattle.rules.specs.Inputs.{withInputs}
 use Rattle.rules.specs.Registers.{macAt, iidAt, tidAt, sidAt, statut, adRef, szRef, image, lowBytes, lowNumber}
 use Rattle.rules.specs.Marks.{sequenceMarked}
-use Rattle.rules.specs.Refusals.{sequenceFall, windowMark, changed, rowOf, readOf, isSync, readsSync}
+use Rattle.rules.specs.Refusals.{sequenceFall, windowMark, changed, rowOf, readOf, isSync, readsSync, skipsBy, skipsRead}
 use Rattle.rules.specs.Replies.{Outcome, outcome, does, syncReply, readReply, acknowledges, muted, replyData, sendReply, sent, sendFrame}
-use Rattle.rules.specs.Requests.{distance, Ask, reads, writes, onAsk, onDistance, onRequest}
+use Rattle.rules.specs.Requests.{distance, mostSkipped, takenAt, Ask, reads, writes, onAsk, onDistance, onRequest}
 use Rattle.rules.specs.Sound.{sound}
 use Rattle.rules.specs.Sources.{isRecorded, recorded, sidOf}
-use Rattle.rules.specs.State.{isHeard, nobody, running, reg, store, storeAll, withTaken}
+use Rattle.rules.specs.State.{isHeard, nobody, running, reg, store, storeAll}
 use Rattle.rules.specs.Sync.{isRepeat, cycleFits, synced, onSync}
 use Rattle.rules.specs.Tick.{ticked}
 use Rattle.rules.specs.Window.{inWindow}
@@ -53,7 +52,7 @@ isHosts n = eqb n replyRoom || eqb n hostInput
 
 -- the agent that a request finds once it is taken
 abbrev pub takenBy : ℕ → ℕ → Agent → Agent
-takenBy seq cyc a = withTaken (distance seq cyc + 1) a
+takenBy seq cyc a = takenAt (distance seq cyc) a
 
 -- a sync that is accepted
 pub record Hears (a : Agent) (src cyc : ℕ) : Type 0 where
@@ -63,19 +62,20 @@ pub record Hears (a : Agent) (src cyc : ℕ) : Type 0 where
   pub fits : (running a && not (cycleFits a cyc)) ≡ false
   pub timely : (running a && not (inWindow a cyc)) ≡ false
 
--- a request with the number due: from the source and with the cycle of the last accepted sync, to the own SID
-pub record IsDue (a : Agent) (dest src cyc seq : ℕ) : Type 0 where
+-- a request from the source and with the cycle of the last accepted sync, to the own SID
+pub record Addressed (a : Agent) (dest src cyc : ℕ) : Type 0 where
   pub somebody : src ≡ nobody → ⊥
   pub last : src ≡ a .last
   pub sid : dest ≡ sidOf a
   pub heard : a .heard ≡ isHeard
   pub same : cyc ≡ a .cycle
-  pub due : distance seq cyc ≡ a .taken
 
--- a request that is taken
+-- a request that is taken: with the number due or at most three past it, below the limit
 pub record Passes (a : Agent) (dest src cyc seq : ℕ) : Type 0 where
-  pub is-due : IsDue a dest src cyc seq
-  pub few : a .taken < limitOf a
+  pub addressed : Addressed a dest src cyc
+  pub low : a .taken ≤ distance seq cyc
+  pub high : distance seq cyc ≤ a .taken + mostSkipped
+  pub few : distance seq cyc < limitOf a
 
 -- a frame with its data that is answered 0, and the agent it leaves before a reply is sent
 pub data Accepts (a : Agent) : Frame → List ℕ → Agent → Type 0 where
@@ -92,8 +92,8 @@ pub data Accepts (a : Agent) : Frame → List ℕ → Agent → Type 0 where
 
 -- what a frame with its data does; a refusal leaves the agent of its row
 pub data KindCase (a : Agent) : Frame → List ℕ → Deed → Type 0 where
-  refuses : {f : Frame} {xs : List ℕ} (n : ℕ) → isMarking (isSync f && running a) n ≡ true
-      → KindCase a f xs (does n (changed (rowOf (isSync f && running a) n) a))
+  refuses : {f : Frame} {xs : List ℕ} (n : ℕ) → isMarking (isSync f && running a) (skipsBy a f) n ≡ true
+      → KindCase a f xs (does n (changed (rowOf (isSync f && running a) (skipsBy a f) n) a))
   fell : {src cyc : ℕ} {xs : List ℕ} → (running a && not (cycleFits a cyc)) ≡ true → KindCase a (Sync src cyc) xs (does cycle (changed sequenceFall a))
   missed : {src cyc : ℕ} {xs : List ℕ} → (running a && not (inWindow a cyc)) ≡ true → KindCase a (Sync src cyc) xs (does outsideWindow (changed windowMark a))
   outside : {dest src cyc seq datl add : ℕ} {xs : List ℕ} → Passes a dest src cyc seq
@@ -102,8 +102,8 @@ pub data KindCase (a : Agent) : Frame → List ℕ → Deed → Type 0 where
 
 -- what a body on a port does
 pub data FrameCase (a : Agent) (body : List ℕ) : Deed → Type 0 where
-  unread : (n : ℕ) → isMarking (readsSync (readOf body) && running a) n ≡ true
-      → FrameCase a body (does n (changed (rowOf (readsSync (readOf body) && running a) n) a))
+  unread : (n : ℕ) → isMarking (readsSync (readOf body) && running a) (skipsRead a (readOf body)) n ≡ true
+      → FrameCase a body (does n (changed (rowOf (readsSync (readOf body) && running a) (skipsRead a (readOf body)) n) a))
   readAs : {d : Deed} (f : Frame) → readBody body .verdict ≡ verdict.Valid → readOf body ≡ Valid f
       → KindCase a f (dataIn f (appIn (readBody body))) d → FrameCase a body d
 
@@ -125,8 +125,8 @@ module _ (port : ℕ) (a : Agent) where
     other-cycle : isSync f ≡ false → KindCase a f xs (does cycle (sequenceMarked a))
     other-cycle e =
         let s : (isSync f && running a) ≡ false = ap (λ (b : Bool). b && running a) e in
-        subst (λ (b : Bool). KindCase a f xs (does cycle (changed (rowOf b cycle) a))) s
-        (refuses cycle (subst (λ (b : Bool). isMarking b cycle ≡ true) (sym s) refl))
+        subst (λ (b : Bool). KindCase a f xs (does cycle (changed (rowOf b (skipsBy a f) cycle) a))) s
+        (refuses cycle (subst (λ (b : Bool). isMarking b (skipsBy a f) cycle ≡ true) (sym s) refl))
 
     request-case : isSync f ≡ false → (dest src cyc seq : ℕ) (ask : Ask) → (Passes a dest src cyc seq → KindCase a f xs (onAsk port (takenBy seq cyc a) src seq ask))
         → KindCase a f xs (onRequest port a dest src cyc seq ask)
@@ -137,20 +137,20 @@ module _ (port : ℕ) (a : Agent) where
         (λ p. unless (not (eqb dest (sidOf a))) (refuses addressee refl)
         (λ q. unless (not (eqb (a .heard) isHeard && eqb cyc (a .cycle))) (other-cycle other)
         (λ r. unless (ltb d (a .taken)) (refuses repeat refl)
-        (λ up. unless (ltb (a .taken) d) (refuses outOfOrder refl)
-        (λ down. unless (leb (limitOf a) (a .taken)) (refuses tooMany refl)
-        (λ few. let e : d ≡ a .taken = omega (arith, ltb-false d (a .taken) up, ltb-false (a .taken) d down) in
-        let both = not-false (eqb (a .heard) isHeard && eqb cyc (a .cycle)) r in
+        (λ up. unless (ltb (a .taken + mostSkipped) d) (refuses outOfOrder refl)
+        (λ down. unless (leb (limitOf a) d) (refuses tooMany refl)
+        (λ few. let both = not-false (eqb (a .heard) isHeard && eqb cyc (a .cycle)) r in
         serve record {
-          is-due = record {
+          addressed = record {
             somebody = eqb-false src nobody (or-left-false (eqb src nobody) _ p);
             last = eqb-true src (a .last) (not-false _ (or-right-false (eqb src nobody) _ p));
             sid = eqb-true dest (sidOf a) (not-false _ q);
             heard = eqb-true (a .heard) isHeard (and-left _ _ both);
             same = eqb-true cyc (a .cycle) (and-right (eqb (a .heard) isHeard) _ both);
-            due = e;
           };
-          few = leb-false (limitOf a) (a .taken) few;
+          low = ltb-false d (a .taken) up;
+          high = ltb-false (a .taken + mostSkipped) d down;
+          few = leb-false (limitOf a) d few;
         }))))))
 
   sync-case : (src cyc : ℕ) (xs : List ℕ) → KindCase a (Sync src cyc) xs (onSync port a src cyc)

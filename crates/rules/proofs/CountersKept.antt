@@ -3,7 +3,7 @@
 use mathlib.Core.Bool.{Bool, true, false, _&&_}
 use mathlib.Core.List.{List, [], _∷_}
 use mathlib.Core.Logic.{_⊎_, inl, inr, ⊎-elim}
-use mathlib.Core.Path.{_≡_, refl, ap}
+use mathlib.Core.Path.{_≡_, refl, ap, _∙_}
 use Prim.Native.Nat.{ℕ, _+_, _≤_, _<_}
 use native.Mathlib.Omega.{arith}
 use borrow.Author.Tests.{ltb-true, ltb-false}
@@ -16,11 +16,12 @@ use Rattle.frame_kinds.specs.declared.kinds.Frame.{Frame}
 use Rattle.frame_kinds.specs.declared.kinds.Frame.the-variants.{SafeWrite}
 use Rattle.rules.specs.Answers.{cycle, outsideRules, outsideWindow, accepted}
 use Rattle.rules.specs.Calls.{Call, frame, act}
-use Rattle.rules.specs.Counters.{Brings, brings, as-before, written, Counts}
+use Rattle.rules.specs.Counters.{Brings, brings, written, Counts}
 use Rattle.rules.specs.Fallback.{withheld}
 use Rattle.rules.specs.Grounds.{byOrder}
 use Rattle.rules.specs.Inputs.{withInputs}
-use Rattle.rules.specs.Refusals.{readOf, isSync, readsSync}
+use Rattle.rules.specs.Marks.{skipMarked}
+use Rattle.rules.specs.Refusals.{readOf, isSync, readsSync, skipsBy, skipsRead}
 use Rattle.rules.specs.Registers.{tidAt, sidAt, statut, inputsAt, lowBytes}
 use Rattle.rules.specs.Replies.{Outcome, outcome}
 use Rattle.rules.specs.Requests.{distance}
@@ -34,8 +35,9 @@ use Rattle.rules.specs.declared.Span.the-variants as span
 use Rattle.laying.specs.Laying.{lineWith}
 use Rattle.rules.proofs.ButFor.{other-stored}
 use Rattle.rules.proofs.Calm.{Calm, calm-same, calm-then, calm-before, calm-behind, calm-between, calm-fallen, quiet-sent, calm-synced, calm-ticked}
-use Rattle.rules.proofs.Cases.{Accepts, heard, read, wrote, renamed, first, again, later, KindCase, refuses, fell, missed, outside, accepts, FrameCase, unread, readAs, CallCase, unsoundly, hosts, ticks, frames, call-case, by-sent}
-use Rattle.rules.proofs.RowKeeps.{Keeps, calmly, recounted, not-status, row-keeps}
+use Rattle.rules.proofs.Cases.{takenBy, Accepts, heard, read, wrote, renamed, first, again, later, KindCase, refuses, fell, missed, outside, accepts, FrameCase, unread, readAs, CallCase, unsoundly, hosts, ticks, frames, call-case, by-sent}
+use Rattle.rules.proofs.MarkSteps.{isMarking, apart}
+use Rattle.rules.proofs.RowKeeps.{Keeps, calmly, recounted, then-calmly, not-status, skip-keeps, row-keeps}
 use Rattle.rules.proofs.Spans.{Placed, inside, span-placed}
 
 -- ---- what is accepted
@@ -49,47 +51,53 @@ covered a add xs i = go (ltb i add) (ltb i (add + length xs)) refl refl
     go false true e h = inr (ltb-false i add e, ltb-true i (add + length xs) h)
     go false false e h = inl (stored-behind (a .regs) add xs i (ltb-false i (add + length xs) h))
 
--- a write, whatever k has become
-module _ {dest src cyc seq datl add : ℕ} {xs : List ℕ} {call : Call} (a : Agent) (k : ℕ) (w : Brings call (SafeWrite dest src cyc seq datl add) xs) where
-  counters-keep : 0x1E ≤ add → Keeps a call accepted (storeAll add xs (withTaken k a))
+-- a write, on the agent b that it finds once it is taken
+module _ {dest src cyc seq datl add : ℕ} {xs : List ℕ} {call : Call} {a : Agent} (b : Agent) (k : Keeps a call accepted b) (w : Brings call (SafeWrite dest src cyc seq datl add) xs) where
+  counters-keep : 0x1E ≤ add → Keeps a call accepted (storeAll add xs b)
   counters-keep l = record {
-    counters = λ i e. ⊎-elim as-before (λ p. written w refl (p .0) (p .1)) (covered a add xs i);
-    bits = ap (λ (x : ℕ). bitAnd x 0x1D) (stored-before (a .regs) add xs statut (omega arith));
+    counters = λ i e. ⊎-elim (λ h. recounted h (k .counters i e)) (λ p. written w refl (p .0) (p .1)) (covered b add xs i);
+    bits = ap (λ (x : ℕ). bitAnd x 0x1D) (stored-before (b .regs) add xs statut (omega arith)) ∙ k .bits;
   }
 
-  write-keeps : (s : Span) → Placed add (length xs) s → writes.allowed s (withTaken k a) add xs ≡ true
-      → Keeps a call accepted (writes.written s (withTaken k a) add xs)
+  write-keeps : (s : Span) → Placed add (length xs) s → writes.allowed s b add xs ≡ true → Keeps a call accepted (writes.written s b add xs)
   write-keeps span.Release (inside _ some l h) ok =
-      by-test (Keeps a call accepted) (eqb (getD xs 0 0) withheld) (λ e. calmly call accepted (calm-fallen (withTaken k a) byOrder))
-      (λ e. calmly call accepted (calm-before (a .regs) add xs (omega arith)))
-  write-keeps span.CycleTime (inside _ some l h) ok = calmly call accepted (calm-before (a .regs) add xs h)
-  write-keeps span.Limits (inside _ some l h) ok = calmly call accepted (calm-between (a .regs) add xs l h)
+      by-test (Keeps a call accepted) (eqb (getD xs 0 0) withheld) (λ e. then-calmly k (calm-fallen b byOrder))
+      (λ e. then-calmly k (calm-before (b .regs) add xs (omega arith)))
+  write-keeps span.CycleTime (inside _ some l h) ok = then-calmly k (calm-before (b .regs) add xs h)
+  write-keeps span.Limits (inside _ some l h) ok = then-calmly k (calm-between (b .regs) add xs l h)
   write-keeps span.Counters (inside _ some l h) ok = counters-keep l
-  write-keeps span.Config (inside _ some l h) ok = calmly call accepted (calm-behind (a .regs) add xs l)
-  write-keeps span.Outputs (inside _ some l h) ok = calmly call accepted (calm-behind (a .regs) add xs (omega arith))
+  write-keeps span.Config (inside _ some l h) ok = then-calmly k (calm-behind (b .regs) add xs l)
+  write-keeps span.Outputs (inside _ some l h) ok = then-calmly k (calm-behind (b .regs) add xs (omega arith))
   write-keeps span.Outside p ok = never ok
 
 module _ {a : Agent} {call : Call} where
+  -- a request that is taken, with 0 or 16
+  taken-keeps : {f : Frame} {xs : List ℕ} (n k : ℕ) → Brings call f xs → (n ≡ accepted) ⊎ (n ≡ outsideRules) → Keeps a call n (withTaken k (skipMarked (skipsBy a f) a))
+  taken-keeps {f = f} n k w z = then-calmly (skip-keeps a call n w z) (calm-same (skipMarked (skipsBy a f) a .regs))
+
   accepted-keeps : {f : Frame} {xs : List ℕ} {b : Agent} → Brings call f xs → Accepts a f xs b → Keeps a call accepted b
   unfolding recorded lowBytes
   accepted-keeps w (heard {src = src} {cyc = cyc} h) = calmly call accepted (calm-synced a src cyc)
-  accepted-keeps w (read p) = calmly call accepted (calm-same (a .regs))
+  accepted-keeps w (read {cyc = cyc} {seq = seq} p) = taken-keeps accepted (distance seq cyc + 1) w (inl refl)
   accepted-keeps w (wrote {cyc = cyc} {seq = seq} {add = add} {xs = xs} p ok) =
-      write-keeps a (distance seq cyc + 1) w (writes.spanOf add (length xs)) (span-placed add (length xs)) ok
+      write-keeps (takenBy seq cyc a) (taken-keeps accepted (distance seq cyc + 1) w (inl refl)) w (writes.spanOf add (length xs)) (span-placed add (length xs)) ok
   accepted-keeps w (renamed {tid = tid} e) = calmly call accepted (calm-before (a .regs) tidAt (tid ∷ []) (omega arith))
   accepted-keeps w (first {sid = sid} s n i) = calmly call accepted (calm-before (a .regs) sidAt (lowBytes 3 sid) (omega arith))
   accepted-keeps w (again n) = calmly call accepted (calm-same (a .regs))
   accepted-keeps w (later s n i e) = calmly call accepted (calm-same (a .regs))
 
   kind-keeps : {f : Frame} {xs : List ℕ} {d : Deed} → Brings call f xs → KindCase a f xs d → Keeps a call (d .answer) (d .agent)
-  kind-keeps {f = f} w (refuses n h) = row-keeps a call n (isSync f && running a)
-  kind-keeps w (fell e) = row-keeps a call cycle true
-  kind-keeps w (missed e) = row-keeps a call outsideWindow true
-  kind-keeps w (outside p) = calmly call outsideRules (calm-same (a .regs))
+  kind-keeps {f = f} w (refuses n h) = row-keeps a call n (isSync f && running a) (skipsBy a f) (apart (isMarking (isSync f && running a) (skipsBy a f)) n outsideRules h refl)
+  kind-keeps w (fell e) = row-keeps a call cycle true 0 refl
+  kind-keeps w (missed e) = row-keeps a call outsideWindow true 0 refl
+  kind-keeps w (outside {cyc = cyc} {seq = seq} p) = taken-keeps outsideRules (distance seq cyc + 1) w (inr refl)
   kind-keeps w (accepts c) = accepted-keeps w c
 
 frame-keeps : {a : Agent} {body : List ℕ} {d : Deed} (port room : ℕ) → FrameCase a body d → Keeps a (frame port body room) (d .answer) (d .agent)
-frame-keeps {a = a} {body = body} port room (unread n h) = row-keeps a (frame port body room) n (readsSync (readOf body) && running a)
+frame-keeps {a = a} {body = body} port room (unread n h) =
+    let b : Bool = readsSync (readOf body) && running a in
+    let s : ℕ = skipsRead a (readOf body) in
+    row-keeps a (frame port body room) n b s (apart (isMarking b s) n outsideRules h refl)
 frame-keeps port room (readAs f v e c) = kind-keeps (brings e) c
 
 -- ---- a call

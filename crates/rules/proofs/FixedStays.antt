@@ -3,7 +3,7 @@
 use mathlib.Core.Bool.{Bool, true, false, not, _&&_}
 use mathlib.Core.List.{List}
 use mathlib.Core.Path.{_≡_, refl, sym, ap, _∙_}
-use Prim.Native.Nat.{ℕ, _+_, _%_}
+use Prim.Native.Nat.{ℕ, _+_, _-_, _%_}
 use lib.Dec.{eqb, leb}
 use lib.ListN.{length, getD}
 use Rattle.base.specs.Choice.{choose}
@@ -17,8 +17,9 @@ use Rattle.rules.specs.Fixed.{fits}
 use Rattle.rules.specs.Inputs.{withInputs}
 use Rattle.rules.specs.PowerUp.{powerUp}
 use Rattle.rules.specs.Registers.{outRep}
-use Rattle.rules.specs.Refusals.{sequenceFall, windowMark, rowOf, readOf, isSync, readsSync}
+use Rattle.rules.specs.Refusals.{sequenceFall, windowMark, requestTaken, rowOf, readOf, isSync, readsSync, skipsBy, skipsRead}
 use Rattle.rules.specs.Replies.{Outcome, outcome}
+use Rattle.rules.specs.Requests.{distance}
 use Rattle.rules.specs.Sound.{sound}
 use Rattle.rules.specs.Sources.{recorded}
 use Rattle.rules.specs.State.{unheard, running, reg, tOf, withCycle, storeAll}
@@ -79,26 +80,30 @@ ticked-same xs a =
     ended-same (limited (counted b)) ∙ limited-same (counted b) ∙ counted-same b
 
 -- ---- case by case
+taken-same : (seq cyc : ℕ) (a : Agent) → Same a (takenBy seq cyc a)
+taken-same seq cyc a = but-for a (requestTaken (distance seq cyc - a .taken)) .fixed
+
 module _ {a : Agent} where
   accepted-same : {f : Frame} {xs : List ℕ} {b : Agent} → Accepts a f xs b → Same a b
   unfolding recorded
   accepted-same (heard {src = src} {cyc = cyc} h) = synced-same src cyc a
-  accepted-same (read p) = refl
-  accepted-same (wrote {cyc = cyc} {seq = seq} {add = add} {xs = xs} p e) = written-same (spanOf add (length xs)) (takenBy seq cyc a) add xs
+  accepted-same (read {cyc = cyc} {seq = seq} p) = taken-same seq cyc a
+  accepted-same (wrote {cyc = cyc} {seq = seq} {add = add} {xs = xs} p e) =
+      written-same (spanOf add (length xs)) (takenBy seq cyc a) add xs ∙ taken-same seq cyc a
   accepted-same (renamed e) = refl
   accepted-same (first s n i) = refl
   accepted-same (again n) = refl
   accepted-same (later s n i e) = refl
 
   kind-same : {f : Frame} {xs : List ℕ} {d : Deed} → KindCase a f xs d → Same a (d .agent)
-  kind-same {f = f} (refuses n h) = but-for a (rowOf (isSync f && running a) n) .fixed
+  kind-same {f = f} (refuses n h) = but-for a (rowOf (isSync f && running a) (skipsBy a f) n) .fixed
   kind-same (fell e) = but-for a sequenceFall .fixed
   kind-same (missed e) = but-for a windowMark .fixed
-  kind-same (outside p) = refl
+  kind-same (outside {cyc = cyc} {seq = seq} p) = taken-same seq cyc a
   kind-same (accepts c) = accepted-same c
 
   frame-same : {body : List ℕ} {d : Deed} → FrameCase a body d → Same a (d .agent)
-  frame-same {body = body} (unread n h) = but-for a (rowOf (readsSync (readOf body) && running a) n) .fixed
+  frame-same {body = body} (unread n h) = but-for a (rowOf (readsSync (readOf body) && running a) (skipsRead a (readOf body)) n) .fixed
   frame-same (readAs f v e c) = kind-same c
 
   call-same : {call : Call} {o : Outcome} → CallCase a call o → Same a (o .agent)

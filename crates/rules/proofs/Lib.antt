@@ -32,5 +32,6 @@ pub mod GoodNext
 pub mod GoodStart
 pub mod NeverUnsound
 pub mod FixedStays
+pub mod Skips
 pub mod AtLimit
 pub mod GoodFacts

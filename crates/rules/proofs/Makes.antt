@@ -2,7 +2,7 @@
 use mathlib.Core.Bool.{true, false}
 use mathlib.Core.List.{[], _∷_}
 use mathlib.Core.Path.{_≡_, refl, ap, _∙_, subst, sym}
-use Prim.Native.Nat.{ℕ, _<_}
+use Prim.Native.Nat.{ℕ, zero, suc, _<_}
 use native.Mathlib.Omega.{arith}
 use borrow.Author.Tests.{eqb-true}
 use lib.Bits.{bitOr}
@@ -14,8 +14,8 @@ use Rattle.base.proofs.Choosing.{never}
 use Rattle.base.proofs.Stored.{stored-before}
 use Rattle.rules.specs.Fallback.{withheld, groundAfter, enterFallback}
 use Rattle.rules.specs.Grounds.{byWrongCycle}
-use Rattle.rules.specs.Marks.{counter, lineMarked, formatMarked, sequenceMarked, windowMarked}
-use Rattle.rules.specs.Refusals.{Change, nothing, lineMark, formatMark, sequenceMark, sequenceFall, windowMark, oneTaken, namesMode, namesTaken, namesMark, changed, statusBy, raises, Makes}
+use Rattle.rules.specs.Marks.{counter, counterBy, lineMarked, formatMarked, sequenceMarked, skipMarked, windowMarked}
+use Rattle.rules.specs.Refusals.{Change, nothing, lineMark, formatMark, sequenceMark, sequenceFall, windowMark, requestTaken, namesMode, namesTaken, namesMark, changed, statusBy, raises, countOf, Makes}
 use Rattle.rules.specs.Registers.{outRep, statut, cptSeq, cptFor, groundAt, outputsAt, image}
 use Rattle.rules.specs.State.{running, reg, store}
 use Rattle.rules.specs.declared.Agent.{Agent}
@@ -50,6 +50,20 @@ module _ (a : Agent) (size : length (a .regs) ≡ 256) where
       let x : ℕ = bitOr (reg a statut) 0x02 in
       stored-there cptSeq (counter (reg a cptSeq)) (store statut x a) (omega (arith, size, length-sets (a .regs) statut (x ∷ [])))
 
+  skip-status : (n : ℕ) → reg (skipMarked n a) statut ≡ statusBy (requestTaken n) (reg a statut)
+  unfolding skipMarked
+  skip-status zero = refl
+  skip-status (suc n) =
+      let x : ℕ = bitOr (reg a statut) 0x02 in
+      other-stored cptSeq (counterBy (suc n) (reg a cptSeq)) (store statut x a) statut refl ∙ stored-there statut x a (omega (arith, size))
+
+  skip-counter : (n : ℕ) → reg (skipMarked n a) cptSeq ≡ counterBy n (reg a cptSeq)
+  unfolding skipMarked
+  skip-counter zero = refl
+  skip-counter (suc n) =
+      let x : ℕ = bitOr (reg a statut) 0x02 in
+      stored-there cptSeq (counterBy (suc n) (reg a cptSeq)) (store statut x a) (omega (arith, size, length-sets (a .regs) statut (x ∷ [])))
+
   module _ (g : ℕ) where
     marked : Agent
     marked = store statut (bitOr (reg a statut) 0x80) a
@@ -83,7 +97,7 @@ module _ (a : Agent) (size : length (a .regs) ≡ 256) where
 
 -- a change that names neither mode nor k nor the mark
 only-marks : (c : Change) (a b : Agent) → namesMode c ≡ false → namesTaken c ≡ false → namesMark c ≡ false
-    → reg b statut ≡ statusBy c (reg a statut) → ((i : ℕ) → raises c i ≡ true → reg b i ≡ counter (reg a i)) → Makes c a b
+    → reg b statut ≡ statusBy c (reg a statut) → ((i : ℕ) → raises c i ≡ true → reg b i ≡ counterBy (countOf c) (reg a i)) → Makes c a b
 only-marks c a b m t r e h = record {
   status = e;
   counters = h;
@@ -96,8 +110,8 @@ only-marks c a b m t r e h = record {
 }
 
 -- at one counter
-at-counter : (a b : Agent) (j : ℕ) → reg b j ≡ counter (reg a j) → (i : ℕ) → eqb i j ≡ true → reg b i ≡ counter (reg a i)
-at-counter a b j e i h = subst (λ (k : ℕ). reg b k ≡ counter (reg a k)) (sym (eqb-true i j h)) e
+at-counter : (n : ℕ) (a b : Agent) (j : ℕ) → reg b j ≡ counterBy n (reg a j) → (i : ℕ) → eqb i j ≡ true → reg b i ≡ counterBy n (reg a i)
+at-counter n a b j e i h = subst (λ (k : ℕ). reg b k ≡ counterBy n (reg a k)) (sym (eqb-true i j h)) e
 
 module _ (a : Agent) (size : length (a .regs) ≡ 256) where
   fell-makes : Makes sequenceFall a (enterFallback byWrongCycle (sequenceMarked a))
@@ -107,7 +121,7 @@ module _ (a : Agent) (size : length (a .regs) ≡ 256) where
       let l : length (b .regs) ≡ 256 = but-for a sequenceMark .size ∙ size in
       record {
         status = fallen-status b l byWrongCycle ∙ ap (λ (x : ℕ). bitOr x 0x80) (sequence-status a size);
-        counters = at-counter a (enterFallback byWrongCycle b) cptSeq (fallback-others b byWrongCycle cptSeq refl refl refl refl ∙ sequence-counter a size);
+        counters = at-counter 1 a (enterFallback byWrongCycle b) cptSeq (fallback-others b byWrongCycle cptSeq refl refl refl refl ∙ sequence-counter a size);
         fallback = λ e. (refl, refl);
         not-released = λ e. fallen-release b l byWrongCycle;
         ground = λ e. fallen-ground b l byWrongCycle ∙ ap (λ (x : ℕ). choose (running a) byWrongCycle x) (but-for a sequenceMark .registers groundAt refl);
@@ -133,14 +147,14 @@ module _ (a : Agent) (size : length (a .regs) ≡ 256) where
   makes nothing = only-marks nothing a a refl refl refl refl (λ i. never)
   makes lineMark = only-marks lineMark a (lineMarked a) refl refl refl (line-status a size) (λ i. never)
   makes formatMark =
-      only-marks formatMark a (formatMarked a) refl refl refl (format-status a size) (at-counter a (formatMarked a) cptFor (format-counter a size))
+      only-marks formatMark a (formatMarked a) refl refl refl (format-status a size) (at-counter 1 a (formatMarked a) cptFor (format-counter a size))
   makes sequenceMark =
-      only-marks sequenceMark a (sequenceMarked a) refl refl refl (sequence-status a size) (at-counter a (sequenceMarked a) cptSeq (sequence-counter a size))
+      only-marks sequenceMark a (sequenceMarked a) refl refl refl (sequence-status a size) (at-counter 1 a (sequenceMarked a) cptSeq (sequence-counter a size))
   makes sequenceFall = fell-makes
   makes windowMark = window-makes
-  makes oneTaken = record {
-    status = refl;
-    counters = λ i. never;
+  makes (requestTaken skips) = record {
+    status = skip-status a size skips;
+    counters = at-counter skips a (skipMarked skips a) cptSeq (skip-counter a size skips);
     fallback = never;
     not-released = never;
     ground = never;

@@ -1,7 +1,7 @@
 -- What a refusal marks, as steps: bits of STATUT set, other than 7 and 6, and counters raised. Assumes nothing.
 use mathlib.Core.Bool.{Bool, true, false, _&&_, _||_}
 use mathlib.Core.Path.{_≡_, refl, sym, _∙_, subst}
-use Prim.Native.Nat.{ℕ}
+use Prim.Native.Nat.{ℕ, zero, suc}
 use borrow.Author.Tests.{ne-eqb}
 use lib.Bits.{bitOr}
 use lib.Dec.{eqb}
@@ -9,8 +9,8 @@ use Rattle.base.specs.Choice.{within}
 use Rattle.base.proofs.Choosing.{never, and-right}
 use Rattle.rules.specs.Answers.{bodyLength, eightOthers}
 use Rattle.rules.specs.Counters.{isCounter}
-use Rattle.rules.specs.Marks.{counter, lineMarked, formatMarked, sequenceMarked}
-use Rattle.rules.specs.Refusals.{Change, nothing, lineMark, formatMark, sequenceMark, sequenceFall, windowMark, oneTaken, changed, rowOf}
+use Rattle.rules.specs.Marks.{counter, counterBy, lineMarked, formatMarked, sequenceMarked, skipMarked}
+use Rattle.rules.specs.Refusals.{Change, nothing, lineMark, formatMark, sequenceMark, sequenceFall, windowMark, requestTaken, changed, rowOf}
 use Rattle.rules.specs.Registers.{statut, cptSeq, cptFor}
 use Rattle.rules.specs.State.{reg, store}
 use Rattle.rules.specs.declared.Agent.{Agent}
@@ -32,15 +32,15 @@ onlyMarks formatMark = true
 onlyMarks sequenceMark = true
 onlyMarks sequenceFall = false
 onlyMarks windowMark = false
-onlyMarks oneTaken = false
+onlyMarks (requestTaken skips) = false
 
 -- 1 to 18, which frames cause
 abbrev pub isFrames : ℕ → Bool
 isFrames n = within bodyLength eightOthers n
 
 -- and of these the ones that only mark
-abbrev pub isMarking : Bool → ℕ → Bool
-isMarking syncInRun n = isFrames n && onlyMarks (rowOf syncInRun n)
+abbrev pub isMarking : Bool → ℕ → ℕ → Bool
+isMarking syncInRun skips n = isFrames n && onlyMarks (rowOf syncInRun skips n)
 
 -- a number of which a test holds is not one of which it fails
 pub apart : (is : ℕ → Bool) (n m : ℕ) → is n ≡ true → is m ≡ false → eqb n m ≡ false
@@ -59,6 +59,12 @@ module _ (a : Agent) where
   unfolding sequenceMarked
   sequence-marks = counts cptSeq (reg a cptSeq) refl (sets 0x02 refl none)
 
+  -- no skip, or some, of which the last adds 1 like any count
+  pub skip-marks : (n : ℕ) → Marks a (skipMarked n a)
+  unfolding skipMarked
+  skip-marks zero = none
+  skip-marks (suc n) = counts cptSeq (counterBy n (reg a cptSeq)) refl (sets 0x02 refl none)
+
   pub change-marks : (c : Change) → onlyMarks c ≡ true → Marks a (changed c a)
   change-marks nothing e = none
   change-marks lineMark e = line-marks
@@ -66,7 +72,7 @@ module _ (a : Agent) where
   change-marks sequenceMark e = sequence-marks
   change-marks sequenceFall e = never e
   change-marks windowMark e = never e
-  change-marks oneTaken e = never e
+  change-marks (requestTaken skips) e = never e
 
-  pub row-marks : (syncInRun : Bool) (n : ℕ) → isMarking syncInRun n ≡ true → Marks a (changed (rowOf syncInRun n) a)
-  row-marks b n e = change-marks (rowOf b n) (and-right (isFrames n) (onlyMarks (rowOf b n)) e)
+  pub row-marks : (syncInRun : Bool) (skips n : ℕ) → isMarking syncInRun skips n ≡ true → Marks a (changed (rowOf syncInRun skips n) a)
+  row-marks b s n e = change-marks (rowOf b s n) (and-right (isFrames n) (onlyMarks (rowOf b s n)) e)

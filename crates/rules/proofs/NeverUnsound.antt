@@ -10,7 +10,7 @@ use Rattle.frame_kinds.specs.declared.kinds.Frame.{Frame}
 use Rattle.rules.specs.Answers.{unsound}
 use Rattle.rules.specs.Calls.{Call, act}
 use Rattle.rules.specs.Good.{Good}
-use Rattle.rules.specs.Refusals.{readOf, isSync, readsSync}
+use Rattle.rules.specs.Refusals.{readOf, isSync, readsSync, skipsBy, skipsRead}
 use Rattle.rules.specs.Replies.{Outcome}
 use Rattle.rules.specs.Sound.{sound}
 use Rattle.rules.specs.State.{running}
@@ -23,14 +23,14 @@ abbrev Other : ℕ → Type 0
 Other n = eqb n unsound ≡ false
 
 kind-other : {a : Agent} {f : Frame} {xs : List ℕ} {d : Deed} → KindCase a f xs d → Other (d .answer)
-kind-other {a = a} {f = f} (refuses n h) = apart (isMarking (isSync f && running a)) n unsound h refl
+kind-other {a = a} {f = f} (refuses n h) = apart (isMarking (isSync f && running a) (skipsBy a f)) n unsound h refl
 kind-other (fell e) = refl
 kind-other (missed e) = refl
 kind-other (outside p) = refl
 kind-other (accepts c) = refl
 
 frame-other : {a : Agent} {body : List ℕ} {d : Deed} → FrameCase a body d → Other (d .answer)
-frame-other {a = a} {body = body} (unread n h) = apart (isMarking (readsSync (readOf body) && running a)) n unsound h refl
+frame-other {a = a} {body = body} (unread n h) = apart (isMarking (readsSync (readOf body) && running a) (skipsRead a (readOf body))) n unsound h refl
 frame-other (readAs f v e c) = kind-other c
 
 call-other : {a : Agent} {call : Call} {o : Outcome} → sound a ≡ true → CallCase a call o → Other (o .answer)

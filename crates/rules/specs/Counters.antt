@@ -13,10 +13,10 @@ use Rattle.frame_kinds.specs.Kinds.{dataIn}
 use Rattle.frame_kinds.specs.declared.kinds.Frame.{Frame}
 use Rattle.frame_kinds.specs.declared.kinds.Frame.the-variants.{SafeWrite}
 use Rattle.frame_forms.specs.declared.Read.the-variants.{Valid}
-use Rattle.rules.specs.Answers.{accepted, typ, cycle, outOfOrder}
+use Rattle.rules.specs.Answers.{accepted, typ, cycle, outOfOrder, outsideRules}
 use Rattle.rules.specs.Calls.{Call, frame}
-use Rattle.rules.specs.Marks.{counter}
-use Rattle.rules.specs.Refusals.{readOf}
+use Rattle.rules.specs.Marks.{counter, counterBy}
+use Rattle.rules.specs.Refusals.{readOf, skipsBy}
 use Rattle.rules.specs.Registers.{statut, cptSeq, cptFor}
 use Rattle.rules.specs.Replies.{Outcome}
 use Rattle.rules.specs.State.{reg}
@@ -40,6 +40,9 @@ pub data Counter (a : Agent) (call : Call) (n : ℕ) (b : Agent) (i : ℕ) : Typ
   -- CPT_SEQ + 1 with 12 or 14, CPT_FOR + 1 with 7; both stop at 255
   out-of-sequence : i ≡ cptSeq → (n ≡ cycle) ⊎ (n ≡ outOfOrder) → reg b i ≡ counter (reg a i) → Counter a call n b i
   not-served : i ≡ cptFor → n ≡ typ → reg b i ≡ counter (reg a i) → Counter a call n b i
+  -- CPT_SEQ + 1 for each number that a request skips, with 0 or 16
+  skipped : {f : Frame} {xs : List ℕ} → Brings call f xs → i ≡ cptSeq → (n ≡ accepted) ⊎ (n ≡ outsideRules)
+      → reg b i ≡ counterBy (skipsBy a f) (reg a i) → Counter a call n b i
 
 -- STATUT bits 4, 3, 2 and 0
 abbrev pub quietBits : Agent → ℕ

@@ -3,7 +3,7 @@
 use mathlib.Core.Bool.{Bool, true, false, _&&_, _||_}
 use mathlib.Core.List.{List, []}
 use mathlib.Core.Path.{_≡_}
-use Prim.Native.Nat.{ℕ, _+_, _<_}
+use Prim.Native.Nat.{ℕ, zero, suc, _+_, _-_, _<_}
 use lib.Bits.{bitOr}
 use lib.Dec.{eqb}
 use lib.ListN.{length, getD, take}
@@ -12,6 +12,7 @@ use Rattle.fields.specs.Fields.{numbers}
 use Rattle.wire.specs.Body.{readBody}
 use Rattle.frame_kinds.specs.Kinds.{headOf}
 use Rattle.frame_kinds.specs.declared.kinds.Frame.{Frame}
+use Rattle.frame_kinds.specs.declared.kinds.Frame.the-variants.{Sync, SafeRead, SafeWrite, PlainRead, PlainWrite, SafeResponse, PlainSyncResponse, PlainResponse, TidAssignment, SidAssignment, SidAssignment4, Acknowledgement, Invariants}
 use Rattle.frame_forms.specs.declared.Read.{Read}
 use Rattle.frame_forms.specs.declared.Read.the-variants.{Valid, Kind, Form, Check}
 use Rattle.rules.specs.Answers.{bodyLength, fcs, reserved, elsewhere, typ, form, crc, source, addressee, cycle, repeat, outOfOrder, tooMany, outsideRules, outsideWindow}
@@ -19,9 +20,10 @@ use Rattle.rules.specs.Calls.{Call, tick, frame, leftIn}
 use Rattle.rules.specs.Fallback.{withheld, groundAfter, enterFallback}
 use Rattle.rules.specs.FrameCall.{agentRead}
 use Rattle.rules.specs.Grounds.{byWrongCycle}
-use Rattle.rules.specs.Marks.{counter, lineMarked, formatMarked, sequenceMarked, windowMarked}
+use Rattle.rules.specs.Marks.{counterBy, lineMarked, formatMarked, sequenceMarked, skipMarked, windowMarked}
 use Rattle.rules.specs.Registers.{outRep, statut, cptSeq, cptFor, groundAt, outputsAt, image}
 use Rattle.rules.specs.Replies.{Outcome}
+use Rattle.rules.specs.Requests.{distance}
 use Rattle.rules.specs.State.{inFallback, isMarked, unmarked, running, reg, withTaken}
 use Rattle.rules.specs.declared.Agent.{Agent}
 
@@ -40,16 +42,16 @@ pub data Change : Type 0 where
   sequenceFall : Change
   -- STATUT bit 1, and the mark
   windowMark : Change
-  -- k + 1
-  oneTaken : Change
+  -- k becomes the number after the request's own; with a skip STATUT bit 1, and CPT_SEQ + 1 for each number skipped
+  requestTaken : (skips : ℕ) → Change
 
 -- the numbers of refusals: 1 to 22
 abbrev pub isRefusal : ℕ → Bool
 isRefusal n = within bodyLength outsideWindow n
 
--- the row of a number; 12 has two, one for a sync in RUN and one for a request
-abbrev pub rowOf : (toSync : Bool) → ℕ → Change
-rowOf toSync n =
+-- the row of a number; 12 has two, one for a sync in RUN and one for a request; that of 16 says how many numbers were skipped
+abbrev pub rowOf : (toSync : Bool) (skips : ℕ) → ℕ → Change
+rowOf toSync skips n =
     -- the line: 1 to 4
     choose (within bodyLength fcs n) lineMark
     -- other stations: 5 and 6
@@ -61,7 +63,7 @@ rowOf toSync n =
     (choose (eqb n repeat) nothing
     (choose (eqb n outOfOrder) sequenceMark
     (choose (eqb n tooMany) nothing
-    (choose (eqb n outsideRules) oneTaken
+    (choose (eqb n outsideRules) (requestTaken skips)
     (choose (eqb n outsideWindow) windowMark
     -- 17 and 18; the host: 19 to 21
     nothing)))))))))
@@ -78,7 +80,7 @@ changed formatMark a = formatMarked a
 changed sequenceMark a = sequenceMarked a
 changed sequenceFall a = enterFallback byWrongCycle (sequenceMarked a)
 changed windowMark a = windowMarked a
-changed oneTaken a = withTaken (a .taken + 1) a
+changed (requestTaken skips) a = withTaken (a .taken + skips + 1) (skipMarked skips a)
 
 -- ---- the parts that a change names
 
@@ -90,7 +92,8 @@ namesRegister formatMark i = eqb i statut || eqb i cptFor
 namesRegister sequenceMark i = eqb i statut || eqb i cptSeq
 namesRegister sequenceFall i = eqb i statut || (eqb i cptSeq || (eqb i outRep || (eqb i groundAt || within 0x80 0xBF i)))
 namesRegister windowMark i = eqb i statut
-namesRegister oneTaken i = false
+namesRegister (requestTaken zero) i = false
+namesRegister (requestTaken (suc skips)) i = eqb i statut || eqb i cptSeq
 
 -- mode and q
 abbrev pub namesMode : Change → Bool
@@ -100,7 +103,7 @@ namesMode formatMark = false
 namesMode sequenceMark = false
 namesMode sequenceFall = true
 namesMode windowMark = false
-namesMode oneTaken = false
+namesMode (requestTaken skips) = false
 
 -- k
 abbrev pub namesTaken : Change → Bool
@@ -110,7 +113,7 @@ namesTaken formatMark = false
 namesTaken sequenceMark = false
 namesTaken sequenceFall = false
 namesTaken windowMark = false
-namesTaken oneTaken = true
+namesTaken (requestTaken skips) = true
 
 -- the mark
 abbrev pub namesMark : Change → Bool
@@ -120,7 +123,7 @@ namesMark formatMark = false
 namesMark sequenceMark = false
 namesMark sequenceFall = true
 namesMark windowMark = true
-namesMark oneTaken = false
+namesMark (requestTaken skips) = false
 
 -- b is a except for the parts that a change names
 pub record ButFor (row : Change) (a b : Agent) : Type 0 where
@@ -147,9 +150,10 @@ statusBy formatMark x = bitOr x 0x20
 statusBy sequenceMark x = bitOr x 0x02
 statusBy sequenceFall x = bitOr (bitOr x 0x02) 0x80
 statusBy windowMark x = bitOr x 0x02
-statusBy oneTaken x = x
+statusBy (requestTaken zero) x = x
+statusBy (requestTaken (suc skips)) x = bitOr x 0x02
 
--- the counters that go up by one and stop at 255
+-- the counters that go up, and stop at 255
 abbrev pub raises : Change → ℕ → Bool
 raises nothing i = false
 raises lineMark i = false
@@ -157,17 +161,27 @@ raises formatMark i = eqb i cptFor
 raises sequenceMark i = eqb i cptSeq
 raises sequenceFall i = eqb i cptSeq
 raises windowMark i = false
-raises oneTaken i = false
+raises (requestTaken skips) i = eqb i cptSeq
+
+-- how many are counted: the one refusal, or the numbers skipped
+abbrev pub countOf : Change → ℕ
+countOf nothing = 1
+countOf lineMark = 1
+countOf formatMark = 1
+countOf sequenceMark = 1
+countOf sequenceFall = 1
+countOf windowMark = 1
+countOf (requestTaken skips) = skips
 
 -- what the named parts are in b
 pub record Makes (row : Change) (a b : Agent) : Type 0 where
   pub status : reg b statut ≡ statusBy row (reg a statut)
-  pub counters : (i : ℕ) → raises row i ≡ true → reg b i ≡ counter (reg a i)
+  pub counters : (i : ℕ) → raises row i ≡ true → reg b i ≡ counterBy (countOf row) (reg a i)
   pub fallback : namesMode row ≡ true → (b .mode ≡ inFallback) × (b .idle ≡ 0)
   pub not-released : namesMode row ≡ true → reg b outRep ≡ withheld
   pub ground : namesMode row ≡ true → reg b groundAt ≡ groundAfter byWrongCycle a
   pub outputs : namesMode row ≡ true → (i : ℕ) → i < image → reg b (outputsAt + i) ≡ 0
-  pub k : namesTaken row ≡ true → b .taken ≡ a .taken + 1
+  pub k : namesTaken row ≡ true → b .taken ≡ a .taken + countOf row + 1
   -- set by 22, cleared with fallback
   pub mark : namesMark row ≡ true → b .mark ≡ choose (namesMode row) unmarked isMarked
 
@@ -194,6 +208,32 @@ bringsSync (frame port body room) = readsSync (readOf body)
 abbrev pub syncInRun : Agent → Call → Bool
 syncInRun a call = bringsSync call && running a
 
+-- how many numbers a request skips: those from k up to its own, without its own
+abbrev pub skipsBy : Agent → Frame → ℕ
+skipsBy a (SafeRead dest src cyc seq datl add) = distance seq cyc - a .taken
+skipsBy a (SafeWrite dest src cyc seq datl add) = distance seq cyc - a .taken
+skipsBy a (Sync src cyc) = 0
+skipsBy a (PlainRead src datl add) = 0
+skipsBy a (PlainWrite src datl add) = 0
+skipsBy a (SafeResponse dest src cyc seq kind datl add stat) = 0
+skipsBy a (PlainSyncResponse src datl add stat) = 0
+skipsBy a (PlainResponse src kind datl add) = 0
+skipsBy a (TidAssignment src iid tid) = 0
+skipsBy a (SidAssignment src sec mac sid) = 0
+skipsBy a (SidAssignment4 src sec mac sid sid2 src2) = 0
+skipsBy a (Acknowledgement src dst sec mac) = 0
+skipsBy a (Invariants dest src cyc seq config logic) = 0
+
+abbrev pub skipsRead : Agent → Read → ℕ
+skipsRead a (Valid f) = skipsBy a f
+skipsRead a Kind = 0
+skipsRead a Form = 0
+skipsRead a Check = 0
+
+abbrev pub skips : Agent → Call → ℕ
+skips a (tick xs) = 0
+skips a (frame port body room) = skipsRead a (readOf body)
+
 -- its number is in the table, nothing is sent, the reply buffer is untouched, and the agent is the one that the
 -- number's row gives: it is as before except for the parts that the row names, and these are as the row says if there
 -- are 256 registers
@@ -201,6 +241,6 @@ pub record Refused (a : Agent) (call : Call) (o : Outcome) : Type 0 where
   pub number : isRefusal (o .answer) ≡ true
   pub silent : o .line ≡ []
   pub buffer : (bytes : List ℕ) → leftIn o bytes ≡ bytes
-  pub state : o .agent ≡ changed (rowOf (syncInRun a call) (o .answer)) a
-  pub others : ButFor (rowOf (syncInRun a call) (o .answer)) a (o .agent)
-  pub named : length (a .regs) ≡ 256 → Makes (rowOf (syncInRun a call) (o .answer)) a (o .agent)
+  pub state : o .agent ≡ changed (rowOf (syncInRun a call) (skips a call) (o .answer)) a
+  pub others : ButFor (rowOf (syncInRun a call) (skips a call) (o .answer)) a (o .agent)
+  pub named : length (a .regs) ≡ 256 → Makes (rowOf (syncInRun a call) (skips a call) (o .answer)) a (o .agent)

@@ -6,7 +6,7 @@ ghost use mathlib.Core.Path.{_≡_};
 // What is fixed at power-up: no call changes it.
 #[repr(C)]
 pub struct Fixed {
-    // how many requests are taken in a cycle: 16 or 64
+    // the limit of requests in a cycle: 16 or 64
     pub limit: u8,
 }
 
@@ -26,7 +26,7 @@ pub struct Agent {
     pub cycle: u8,
     // e: ms in the cycle
     pub elapsed: u8,
-    // k: requests taken in the cycle
+    // k: the number after the highest taken in the cycle, counted from its first SEQ
     pub taken: u8,
     // RUN (1) or fallback (0)
     pub mode: u8,

@@ -5,6 +5,7 @@ mod bad;
 mod bodies;
 mod grounds;
 mod list;
+mod skips;
 mod ticks;
 mod windows;
 mod writes;
@@ -17,6 +18,7 @@ use crate::frame::{self, com, Frame};
 use crate::module::registers::{CONF, CPT_FOR, CPT_SEQ, SILENT};
 use crate::module::{Agent, Mode};
 use crate::script::{parse, Line, Lines, Played, Player};
+use skips::Skips;
 use std::collections::{BTreeMap, HashMap};
 use std::fmt;
 
@@ -29,6 +31,7 @@ pub struct Census {
     outside: u8,
     /// How many lines of inputs came one after another, up to this one.
     in_a_row: usize,
+    skips: Skips,
 }
 
 /// A script as bytes.
@@ -39,6 +42,7 @@ pub fn of(script: &[u8]) -> Census {
         accepted: HashMap::new(),
         outside: 0,
         in_a_row: 0,
+        skips: Skips::default(),
     };
     let mut lines = Lines::new(script);
     while let Some(line) = lines.next_line().expect("memory can be read") {
@@ -136,6 +140,8 @@ impl Census {
         if let Ok(received) = frame::read(received) {
             self.request(&received.frame, before, answer);
             self.window(port, &received.frame, before, answer);
+            let skips = self.skips.events(&received.frame, before, answer);
+            skips.iter().for_each(|what| self.add(what));
         }
         match answer {
             0 => drop(self.accepted.insert(received.to_vec(), port)),
@@ -177,7 +183,7 @@ impl Census {
             return;
         };
         if before.taken == before.fixed.limit && (13..=15).contains(&answer) {
-            self.add(&format!("with {} taken: {answer}", before.taken));
+            self.add(&format!("k at the limit: {answer}"));
         }
         let deposed = before.recorded.contains(&head.src) && before.source != Some(head.src);
         if answer == 10 && deposed && before.source.is_some() {

@@ -18,10 +18,14 @@ pub fn run(tally: &mut Tally) {
     many_requests(tally);
 }
 
-/// P1 to P3: by the rule, and as the only SEQ that a fresh cycle takes.
+/// P1 to P3: by the rule, and as the first of the four SEQs that a fresh cycle takes.
 fn first_seqs(tally: &mut Tally) {
-    for (case, cyc, seq) in [("P1", 0x05, 0xFB), ("P2", 0x00, 0x00), ("P3", 0xFF, 0x01)] {
-        tally.check(first_seq(cyc) == seq, case);
+    for (case, cyc, taken) in [
+        ("P1", 0x05, [0xFB, 0xFC, 0xFD, 0xFE]),
+        ("P2", 0x00, [0x00, 0x01, 0x02, 0x03]),
+        ("P3", 0xFF, [0x01, 0x02, 0x03, 0x04]),
+    ] {
+        tally.check(first_seq(cyc) == taken[0], case);
         for tried in 0..=0xFF {
             let mut bench = Bench::named();
             bench.sync(cyc);
@@ -32,7 +36,7 @@ fn first_seqs(tally: &mut Tally) {
                 seq: tried,
             };
             let number = bench.say(1, &speech::read(0xFF, head, 1, 0x10)).number;
-            let expected = if tried == seq { 0 } else { 14 };
+            let expected = if taken.contains(&tried) { 0 } else { 14 };
             tally.check(number == expected, &format!("{case}, SEQ {tried:02X}"));
         }
     }

@@ -1,5 +1,6 @@
-//! Register 26h over whole scripts, told by a watcher that keeps its own counts. It sees calls, answers,
-//! the mode and the settings, but none of the module's clocks and no mark.
+//! Register 26h and the freshness of requests over whole scripts, told by a watcher that keeps its own
+//! counts. It sees calls, answers, the mode, the outputs and the settings, but none of the module's clocks,
+//! no k and no mark.
 
 use super::Tally;
 use crate::frame::{self, Frame};
@@ -16,6 +17,18 @@ struct Watcher {
     since_output: u32,
     /// What 26h has to show.
     ground: u8,
+    turn: Turn,
+}
+
+/// The requests since the last accepted sync, by their SEQ.
+#[derive(Default)]
+struct Turn {
+    /// The number due: the first SEQ of the cycle, or the one after the last taken.
+    due: u8,
+    taken: Vec<u8>,
+    skipped: Vec<u8>,
+    /// How many skipped ones came late, in the whole script.
+    late: usize,
 }
 
 pub fn run(tally: &mut Tally) {
@@ -27,12 +40,14 @@ pub fn run(tally: &mut Tally) {
         for line in generate::script_as(fixed, seed, 5000).split(|&byte| byte == b'\n') {
             right &= parse(line).is_none_or(|line| watcher.line(&mut player, line));
         }
-        tally.check(right, &format!("26h over the script of seed {seed}"));
+        tally.check(right, &format!("26h and fresh requests, seed {seed}"));
+        tally.check(watcher.turn.late >= 5, &format!("late ones, seed {seed}"));
     }
 }
 
 impl Watcher {
-    /// Whether mode and 26h are as they have to be after every call of the line.
+    /// Whether mode and 26h are as they have to be after every call of the line, and a request that is taken
+    /// is fresh.
     fn line(&mut self, player: &mut Player, line: Line) -> bool {
         match line {
             Line::Ticks(count) => {
@@ -49,7 +64,8 @@ impl Watcher {
                     1 | 2 => self.frame(&body, &before, answer),
                     _ => None,
                 };
-                self.judge(ground, &before, &player.agent)
+                let fresh = self.turn.frame(&body, &before, answer, &player.agent);
+                self.judge(ground, &before, &player.agent) && fresh
             }
         }
     }
@@ -100,4 +116,47 @@ impl Watcher {
         self.ground = ground.unwrap_or(self.ground);
         left == ground.is_some() && after.registers[0x26] == self.ground
     }
+}
+
+impl Turn {
+    /// Whether a request that is taken is fresh, and one that is not fresh changes nothing that counts.
+    fn frame(&mut self, body: &[u8], before: &Agent, answer: u8, after: &Agent) -> bool {
+        let changed = before.mode != after.mode || outputs(before) != outputs(after);
+        match (frame::read(body).map(|received| received.frame), answer) {
+            (Ok(Frame::Sync { cyc, .. }), 0) => {
+                *self = Turn {
+                    due: 0_u8.wrapping_sub(cyc),
+                    late: self.late,
+                    ..Turn::default()
+                };
+                true
+            }
+            (Ok(Frame::SafeRead { head, .. } | Frame::SafeWrite { head, .. }), 0 | 16) => {
+                self.take(head.seq)
+            }
+            // Not taken: a copy, a skipped number that is late, or any other.
+            (Ok(Frame::SafeRead { head, .. } | Frame::SafeWrite { head, .. }), _) => {
+                let skipped = self.skipped.contains(&head.seq);
+                self.late += (answer == 13 && skipped) as usize;
+                let passed = skipped || self.taken.contains(&head.seq);
+                !changed && (answer != 13 || passed)
+            }
+            _ => true,
+        }
+    }
+
+    /// The number due or one at most three past it. Those before it are skipped.
+    fn take(&mut self, seq: u8) -> bool {
+        let ahead = seq.wrapping_sub(self.due);
+        let fresh = ahead <= 3 && !self.taken.contains(&seq) && !self.skipped.contains(&seq);
+        let lost = (0..ahead).map(|step| self.due.wrapping_add(step));
+        self.skipped.extend(lost);
+        self.taken.push(seq);
+        self.due = seq.wrapping_add(1);
+        fresh
+    }
+}
+
+fn outputs(agent: &Agent) -> &[u8] {
+    &agent.registers.bytes[0x80..0xC0]
 }

@@ -7,7 +7,6 @@ use crate::generate::{self, speech};
 use crate::module::{Agent, Fixed};
 use crate::refusal::Refusal;
 use crate::script::{parse, Line, Player};
-use std::cmp::Ordering;
 
 const LIMITS: [u8; 2] = [16, 64];
 
@@ -26,8 +25,8 @@ pub fn run(tally: &mut Tally) {
     }
 }
 
-/// Every SEQ with k taken: below k 13, above it 14, and the due one 15 at the limit only. A write
-/// outside the rules is then 15 too.
+/// Every SEQ with k taken: below k 13, more than three past it 14, and of the others 15 from the
+/// limit on. A write outside the rules is then 15 too.
 fn turns(tally: &mut Tally, limit: u8, taken: u8) {
     let mut start = Bench::limited(limit);
     for _ in 0..taken {
@@ -38,21 +37,20 @@ fn turns(tally: &mut Tally, limit: u8, taken: u8) {
     for distance in 0..=0xFF {
         let mut head = start.head();
         head.seq = first.wrapping_add(distance);
-        for (said, due) in [
+        for (said, answer) in [
             (speech::read(0x90, head, 1, 0x10), 0),
             (speech::write(0x90, head, 0x80, &[1]), 0),
             (speech::write(0x90, head, 0x26, &[1]), 16),
         ] {
-            let expected = match distance.cmp(&taken) {
-                Ordering::Less => 13,
-                Ordering::Greater => 14,
-                Ordering::Equal if taken == limit => 15,
-                Ordering::Equal => due,
+            let (expected, next) = match distance {
+                _ if distance < taken => (13, taken),
+                _ if distance > taken + 3 => (14, taken),
+                _ if distance >= limit => (15, taken),
+                _ => (answer, distance + 1),
             };
             let mut bench = start.clone();
             right &= bench.say(1, &said).number == expected;
-            let more = [0, 16].contains(&expected) as u8;
-            right &= bench.agent.taken == taken + more;
+            right &= bench.agent.taken == next;
         }
     }
     tally.check(right, &format!("limit {limit}, {taken} taken: every SEQ"));

@@ -1,6 +1,6 @@
 //! Self checks: stored vectors, published and proved values, round trips of every kind, the
-//! cases on the bench, what the host may do wrong, the limit of requests, the tick call, the window
-//! of syncs, the ground of fallback, the traps, the script and the frame program.
+//! cases on the bench, what the host may do wrong, the limit of requests, the numbers skipped, the tick
+//! call, the window of syncs, the ground of fallback, the traps, the script and the frame program.
 
 mod bench;
 mod ground;
@@ -11,6 +11,7 @@ mod lists;
 mod module;
 mod rules;
 mod script;
+mod skip;
 mod spelling;
 mod tick;
 mod traps;
@@ -53,6 +54,7 @@ pub fn run() -> Tally {
     rules::run(&mut tally);
     host::run(&mut tally);
     limit::run(&mut tally);
+    skip::run(&mut tally);
     tick::run(&mut tally);
     window::run(&mut tally);
     ground::run(&mut tally);

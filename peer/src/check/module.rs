@@ -106,13 +106,18 @@ impl Bench {
         }
     }
 
-    /// The due one, if all before were due.
+    /// So many requests are lost on the way.
+    pub fn lose(&mut self, count: u8) {
+        self.seq = self.seq.wrapping_add(count);
+    }
+
+    /// The next one: due if the one before it was taken.
     pub fn write(&mut self, add: u8, data: &[u8]) -> u8 {
         let head = self.next_head();
         self.say(1, &speech::write(0x90, head, add, data)).number
     }
 
-    /// The due one; number and reply.
+    /// The next one; number and reply.
     pub fn read(&mut self, datl: u8, add: u8) -> (u8, Option<(Frame, Vec<u8>)>) {
         let head = self.next_head();
         let outcome = self.say(1, &speech::read(0x90, head, datl, add));

@@ -84,9 +84,9 @@ const IN_A_LONG_SCRIPT: [(&str, usize); 59] = [
     ("accepted with CONF bit 2", 50),
     ("CPT_SEQ stays at 255", 20),
     ("CPT_FOR stays at 255", 20),
-    ("with 64 taken: 13", 20),
-    ("with 64 taken: 14", 20),
-    ("with 64 taken: 15", 50),
+    ("k at the limit: 13", 20),
+    ("k at the limit: 14", 20),
+    ("k at the limit: 15", 50),
     ("damaged body 1: none at all", 10),
     ("damaged body 1: short", 10),
     ("damaged body 1: long", 10),
@@ -148,6 +148,45 @@ const WITH_EACH_GROUND: [(&str, usize); 6] = [
     ("reply: to a sync, 26h ", 20),
 ];
 
+/// What the numbers of requests must bring up in a long script, and how often, at least.
+const OF_NUMBERS: [(&str, usize); 21] = [
+    ("1 skipped: 0", 20),
+    ("2 skipped: 0", 20),
+    ("3 skipped: 0", 100),
+    ("1 skipped: 16", 5),
+    ("2 skipped: 16", 5),
+    ("3 skipped: 16", 50),
+    ("1 skipped: CPT_SEQ stops at 255", 3),
+    ("2 skipped: CPT_SEQ stops at 255", 3),
+    ("3 skipped: CPT_SEQ stops at 255", 3),
+    ("13 to a number skipped", 50),
+    ("13 to a number taken", 200),
+    ("14, d = k + 4", 50),
+    ("14, d = 68", 10),
+    ("15, d = k + 0", 50),
+    ("15, d = k + 1", 10),
+    ("15, d = k + 2", 10),
+    ("15, d = k + 3", 10),
+    ("15, d = 64", 50),
+    ("15, d = 65", 10),
+    ("15, d = 66", 10),
+    ("15, d = 67", 10),
+];
+
+/// k, and the answers to requests that are 0 to 4 numbers ahead; 0 stands for 0 or 16.
+const BY_TAKEN: [(u8, [u8; 5]); 10] = [
+    (0, [0, 0, 0, 0, 14]),
+    (1, [0, 0, 0, 0, 14]),
+    (2, [0, 0, 0, 0, 14]),
+    (3, [0, 0, 0, 0, 14]),
+    (4, [0, 0, 0, 0, 14]),
+    (60, [0, 0, 0, 0, 14]),
+    (61, [0, 0, 0, 15, 14]),
+    (62, [0, 0, 15, 15, 14]),
+    (63, [0, 15, 15, 15, 14]),
+    (64, [15, 15, 15, 15, 14]),
+];
+
 const NEVER: [&str; 3] = [
     census::CHANGED,
     "left RUN: none since power-up",
@@ -174,6 +213,7 @@ pub fn run(tally: &mut Tally) {
     generated(tally);
     generated_edges(tally);
     generated_grounds(tally);
+    generated_numbers(tally);
 }
 
 fn output(program: Program, input: &[u8]) -> String {
@@ -343,5 +383,22 @@ fn generated_grounds(tally: &mut Tally) {
     }
     for what in NEVER {
         tally.check(census.count(what) == 0, what);
+    }
+}
+
+/// And the numbers of requests, those near the first and about the limit.
+fn generated_numbers(tally: &mut Tally) {
+    let census = census::of(&generate::script(12, 20_000));
+    for (what, least) in OF_NUMBERS {
+        tally.check(census.count(what) >= least, what);
+    }
+    for (taken, answers) in BY_TAKEN {
+        for (ahead, answer) in answers.into_iter().enumerate() {
+            let what = format!("k = {taken}, {ahead} ahead");
+            let refused = (answer == 0).then(|| format!("{what}: 16"));
+            let what = format!("{what}: {answer}");
+            let count = census.count(&what) + refused.map_or(0, |what| census.count(&what));
+            tally.check(count > 0, &what);
+        }
     }
 }

@@ -2,7 +2,7 @@
 
 #[derive(Clone, Copy, Debug, PartialEq, Eq)]
 pub struct Fixed {
-    /// How many requests are taken in a cycle: one of `LIMITS`, though the host may give any byte.
+    /// The limit of requests in a cycle: one of `LIMITS`, though the host may give any byte.
     pub limit: u8,
 }
 

@@ -1,7 +1,8 @@
 //! The agent of one SIL2 output module: its state, and what ticks and frames do to it.
 //!
 //! The names of document 01: `cycle` is c, `in_cycle` e, `since_sync` s, `since_output` q,
-//! `taken` k; t, n and m are in the registers. `mark` is the mark of document 02's request 1.
+//! `taken` k; t, n and m are in the registers. `mark` is the mark of document 02's request 1; by its
+//! request 4 k is the number after the highest taken in the cycle, counted from the first SEQ.
 
 mod assignment;
 mod call;
@@ -21,7 +22,7 @@ pub use assignment::assignable;
 pub use call::{Outcome, REPLY_ROOM};
 pub use fixed::{Fixed, LIMITS};
 pub use mode::Mode;
-pub use request::first_seq;
+pub use request::{first_seq, SKIPPED_MAX};
 
 use registers::Registers;
 

@@ -1,4 +1,4 @@
-//! Requests at the end of a cycle's count: the due one, the one before it and the one after it.
+//! Requests at the end of a cycle's count: the due one, the one before it and four after it.
 
 use crate::call::Call;
 use host::library::SaturnAgent;
@@ -14,7 +14,8 @@ const MODULES: u8 = 0x90;
 /// From the last source; k is not 0.
 pub fn request(random: &mut Random, state: &SaturnAgent) -> Call {
     let due = state.taken;
-    let distance = random.pick(&[due, due, due, due - 1, due + 1]);
+    let ahead = due + 1 + random.below(4) as u8;
+    let distance = random.pick(&[due, due, due - 1, ahead, ahead]);
     let sid = SID as usize;
     let [low, middle, high] = [sid, sid + 1, sid + 2].map(|place| state.regs[place]);
     let head = Head {

@@ -3,7 +3,7 @@
 //! `compare SEED SCRIPTS LINES`: SCRIPTS scripts of LINES lines each, on modules with either limit of
 //! requests in turn, with calls between the lines on unsound states, short buffers, other ports, inputs
 //! of other lengths, requests around the limit, syncs about their window and ticks that meet the grounds of
-//! fallback. Stops at the first difference.
+//! fallback. Before them, every skip of numbers. Stops at the first difference.
 
 mod alter;
 mod call;
@@ -11,6 +11,7 @@ mod flood;
 mod ground;
 mod play;
 mod power;
+mod skip;
 mod spoil;
 mod tally;
 mod window;
@@ -43,6 +44,7 @@ fn main() -> ExitCode {
 fn run(seed: u64, scripts: u64, lines: usize) -> Result<Tally, String> {
     let mut tally = Tally::default();
     power::check(seed, &mut tally)?;
+    skip::check(seed, &mut tally)?;
     for seed in seed..seed + scripts {
         Play::new(seed, &mut tally).script(lines)?;
     }

@@ -231,7 +231,7 @@ impl<'a> Play<'a> {
         if state.heard == 0 {
             return Ok(());
         }
-        state.taken = state.fixed.limit - self.random.below(3) as u8;
+        state.taken = state.fixed.limit - self.random.below(5) as u8;
         for _ in 0..6 {
             let call = flood::request(&mut self.random, &state);
             state = self.compare(&state, &call)?.1;

@@ -2,6 +2,7 @@
 
 use crate::alter::HARMLESS;
 use crate::ground;
+use crate::skip;
 use crate::spoil::WAYS;
 use peer::module::{LIMITS, REPLY_ROOM};
 use std::collections::BTreeMap;
@@ -85,6 +86,7 @@ impl Tally {
             .chain(harmless)
             .chain(by_limit)
             .chain(ground::all())
+            .chain(skip::all())
             .filter(|what| self.count(what) == 0)
             .chain(lengths)
             .collect()

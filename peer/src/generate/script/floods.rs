@@ -18,8 +18,8 @@ pub fn full_cycle(stage: &mut Stage) {
     one_more(stage);
 }
 
-/// The cycle is at the limit: a due one is too many, an old one a repeat, a later one out of order.
-/// A repeated sync does not make room.
+/// k is at the limit: the due one is too many, and so are the three past it; an old one is a repeat, one
+/// further on is out of order. A repeated sync does not make room.
 pub fn one_more(stage: &mut Stage) {
     for _ in 0..2 {
         stage.read(1, 0x10);
@@ -29,7 +29,7 @@ pub fn one_more(stage: &mut Stage) {
         stage.say(&sync);
     }
     let limit = stage.limit();
-    for distance in [0, limit - 1, limit + 1, 128, 255] {
+    for distance in [0, limit - 1, limit + 1, limit + 3, limit + 4, 128, 255] {
         let (address, head) = (stage.address(), stage.head_at(distance));
         stage.say(&speech::read(address, head, 1, 0x10).body());
     }

@@ -159,7 +159,7 @@ impl Stage {
         self.sync(self.active(), cyc);
     }
 
-    /// A heard cycle that takes `room` more requests. `room` is at most the limit.
+    /// A heard cycle that takes `room` more requests, if they skip no number. `room` is at most the limit.
     pub fn heard_cycle(&mut self, room: u8) {
         if !self.agent().heard || self.agent().taken > self.limit() - room {
             self.begin_cycle();

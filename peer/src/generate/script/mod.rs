@@ -13,6 +13,7 @@ mod pairs;
 mod reads;
 mod settings;
 mod silences;
+mod skips;
 mod spans;
 mod stage;
 mod takeover;
@@ -25,7 +26,7 @@ use stage::Stage;
 type Scene = fn(&mut Stage);
 
 /// The scenes and how often each is in a deck.
-const SCENES: [(Scene, usize); 47] = [
+const SCENES: [(Scene, usize); 50] = [
     (cycles::steady, 4),
     (cycles::wrap, 3),
     (windows::edges, 11),
@@ -46,22 +47,25 @@ const SCENES: [(Scene, usize); 47] = [
     (silences::pending_release, 4),
     (silences::after_refusal, 2),
     (silences::long, 2),
-    (spans::edges, 8),
+    (spans::edges, 9),
     (spans::outside, 2),
     (spans::release_values, 4),
     (reads::edges, 4),
     (reads::statut, 3),
     (floods::full_cycle, 2),
+    (skips::first, 6),
+    (skips::last, 6),
+    (skips::counts, 4),
     (turns::cycle, 3),
     (turns::repeats, 3),
     (turns::order, 4),
     (turns::sync, 5),
     (turns::echo, 3),
     (names::tids, 4),
-    (names::sids, 18),
-    (faults::line, 14),
-    (faults::addresses, 10),
-    (faults::typs, 4),
+    (names::sids, 22),
+    (faults::line, 16),
+    (faults::addresses, 11),
+    (faults::typs, 5),
     (faults::lengths, 6),
     (faults::forms, 5),
     (faults::crcs, 11),

@@ -3,7 +3,7 @@
 use super::super::speech;
 use super::faults::{self, good};
 use super::stage::Stage;
-use super::{cycles, names, turns};
+use super::{cycles, names, skips, turns};
 use crate::module::registers::{CONF, CPT_FOR, CPT_SEQ, SILENT};
 
 /// Each counter set near its end, then driven over it.
@@ -15,7 +15,7 @@ pub fn counters(stage: &mut Stage) {
     for _ in 0..3 {
         let unknown = good(stage).with(0, 0x08);
         stage.send(&unknown);
-        let (address, ahead) = (stage.address(), stage.agent().taken + 1);
+        let (address, ahead) = (stage.address(), stage.agent().taken + 4);
         let head = stage.head_at(ahead);
         stage.send(&speech::read(address, head, 1, CPT_SEQ));
     }
@@ -43,10 +43,11 @@ pub fn silent(stage: &mut Stage) {
 }
 
 /// What may happen meanwhile.
-const SILENT_SCENES: [fn(&mut Stage); 5] = [
+const SILENT_SCENES: [fn(&mut Stage); 6] = [
     cycles::steady,
     names::sids,
     turns::order,
+    skips::first,
     faults::line,
     turns::cycle,
 ];

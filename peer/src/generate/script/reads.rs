@@ -59,7 +59,7 @@ pub fn statut(stage: &mut Stage) {
             stage.say(&[0x01, 0x02]);
         }
         if stage.random.one_in(2) {
-            let ahead = stage.agent().taken + 1;
+            let ahead = stage.agent().taken + 4;
             let address = stage.address();
             let head = stage.head_at(ahead);
             stage.say(&super::super::speech::read(address, head, 1, 0x19).body());

@@ -41,7 +41,7 @@ impl Stage {
         &self.player.agent
     }
 
-    /// How many requests the module takes in a cycle.
+    /// The module's limit of requests in a cycle.
     pub fn limit(&self) -> u8 {
         self.agent().fixed.limit
     }

@@ -63,13 +63,13 @@ pub fn repeats(stage: &mut Stage) {
     stage.read(1, 0x19);
 }
 
-/// One or more left out, or one before the first.
+/// Four or more left out, or one before the first.
 pub fn order(stage: &mut Stage) {
     stage.some_mode(8);
     for _ in 0..4 {
         let taken = stage.agent().taken;
         let any = stage.random.byte();
-        let distance = stage.random.pick(&[taken + 1, taken + 2, 0xFF, 0x80, any]);
+        let distance = stage.random.pick(&[taken + 4, taken + 5, 0xFF, 0x80, any]);
         let (address, head) = (stage.address(), stage.head_at(distance));
         stage.send(&speech::write(address, head, 0x80, &[0xEE]));
         if stage.random.one_in(2) {
