@@ -14,5 +14,6 @@ pub mod module;
 pub mod refusal;
 pub mod script;
 pub mod spelling;
+pub mod strike;
 pub mod stuffing;
 pub mod vectors;

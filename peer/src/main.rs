@@ -10,10 +10,12 @@
 //! - `peer census`: a script on standard input, what it brings up and how often on standard output
 //! - `peer list-census`: the same for a list
 //! - `peer fuzz COUNT SEED PROGRAM...`: fresh scripts through `trace` and another trace program
+//! - `peer strike COUNT SEED PROGRAM... -- PROGRAM...`: fresh scripts with refused frames struck, through a trace
+//!   program and a script program
 //! - `peer test`: self checks
 
 use peer::cases::{self, Program};
-use peer::{census, check, fuzz, generate, script, spelling};
+use peer::{census, check, fuzz, generate, script, spelling, strike};
 use std::io::{self, BufWriter, ErrorKind, Read, Write};
 use std::process::ExitCode;
 
@@ -27,6 +29,7 @@ const USAGE: &str = "usage: peer answer crc|body|frame
        peer census
        peer list-census
        peer fuzz COUNT SEED PROGRAM...
+       peer strike COUNT SEED PROGRAM... -- PROGRAM...
        peer test
 ";
 
@@ -46,6 +49,7 @@ fn main() -> ExitCode {
         ["fuzz", count, seed, ref command @ ..] if !command.is_empty() => {
             fuzzed(count, seed, command)
         }
+        ["strike", count, seed, ref commands @ ..] => struck(count, seed, commands),
         ["test"] => Some(test()),
         _ => None,
     };
@@ -121,6 +125,23 @@ fn fuzzed(count: &str, seed: &str, command: &[&str]) -> Option<io::Result<ExitCo
         Ok(match report.difference {
             None => ExitCode::SUCCESS,
             Some(_) => ExitCode::FAILURE,
+        })
+    }))
+}
+
+/// `None` for words that do not begin with two numbers, or are not two commands then.
+fn struck(count: &str, seed: &str, commands: &[&str]) -> Option<io::Result<ExitCode>> {
+    let (count, seed) = (count.parse().ok()?, seed.parse().ok()?);
+    let between = commands.iter().position(|&word| word == "--")?;
+    let (trace, script) = (&commands[..between], &commands[between + 1..]);
+    if trace.is_empty() || script.is_empty() {
+        return None;
+    }
+    Some(strike::run(count, seed, trace, script).and_then(|report| {
+        print(report.to_string())?;
+        Ok(match report.right() {
+            true => ExitCode::SUCCESS,
+            false => ExitCode::FAILURE,
         })
     }))
 }

@@ -9,3 +9,4 @@ pub mod Journeyed
 pub mod Windowed
 pub mod Grounded
 pub mod Skipped
+pub mod Struck

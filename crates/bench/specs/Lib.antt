@@ -4,3 +4,4 @@ pub mod Windows
 pub mod Cases
 pub mod Grounds
 pub mod Skips
+pub mod Striking

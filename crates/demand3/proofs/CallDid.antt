@@ -53,7 +53,7 @@ module _ {a : Agent} (good : Good a) where
     accepted-did n ok c (heard k) = synced-did good call n (c .amounts n ∙ choose-true _ _ ok) k
     accepted-did n ok c (read {cyc = cyc} {seq = seq} {datl = datl} {add = add} p) =
         let d : ℕ = distance seq cyc in
-        record { view = takes d (viewOf a); did = asked _ (c .amounts n ∙ choose-true _ _ ok) (in-reach p (reads datl add) (c .sized .3)) refl; shows = taken-view d a }
+        record { view = takes d (viewOf a); did = asked _ (c .amounts n ∙ choose-true _ _ ok) (in-reach p (reads datl add) (c .sized .3)) (record { no-write = refl; none-covered = λ i b. refl }); shows = taken-view d a }
     accepted-did n ok c (wrote {add = add} {xs = xs} p e) =
         span-did a good call n ok _ (c .amounts n ∙ choose-true _ _ ok) (in-reach p (writes add xs) (c .sized .3)) add xs refl (is-laid c) (spanOf add (length xs)) refl e
     accepted-did n ok c (renamed {tid = tid} e) = keeps n (store tidAt tid a) (c .amounts n) (apart-view tidAt (tid ∷ []) a apart-tid)

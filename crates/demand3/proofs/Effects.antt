@@ -13,8 +13,9 @@ use Rattle.frame_kinds.specs.declared.kinds.Frame.the-variants.{SafeWrite}
 use Rattle.rules.specs.Calls.{Call, frame}
 use Rattle.rules.specs.Fallback.{released, withheld}
 use Rattle.rules.specs.Grounds.{bySyncSilence, byCommandSilence, byWrongCycle, byOrder, byWindow}
-use Rattle.rules.specs.Registers.{outputsAt}
+use Rattle.rules.specs.Registers.{outputsAt, image}
 use Rattle.rules.specs.Replies.{Outcome}
+use Rattle.rules.specs.Requests.{writes}
 use Rattle.rules.specs.State.{inRun, inFallback, isHeard, unheard, isMarked, unmarked, nobody}
 use Rattle.rules.specs.Tick.{silenceEnd}
 use Rattle.rules.specs.declared.Agent.{Agent}
@@ -22,6 +23,7 @@ use Rattle.demand3.specs.Events.{Event, aTick, aSync, aMissedSync, aRequ
 use Rattle.demand3.specs.Grounds.{WrongSync}
 use Rattle.demand3.specs.Numbers.{mostSkipped, window, isAccepted, firstSeq}
 use Rattle.demand3.specs.Sharper.{Brings}
+use Rattle.demand3.specs.Terminals.{covers}
 use Rattle.demand3.proofs.Views.{RegisterView, Cycle, Clocks, View, viewOf, Agree}
 
 -- ---- the effects, part by part
@@ -172,6 +174,12 @@ pub record LaidWrite (call : Call) (r : Request) (add : ℕ) (xs : List ℕ) : T
   pub called : call ≡ frame port body room
   pub laid : body ≡ bodyOf address (appOf (SafeWrite (r .dest) (r .src) (r .cyc) (r .seq) datl add) xs)
   pub length-is : length xs ≡ datl
+  pub ask : r .ask ≡ writes add xs
+
+-- the request spares the outputs: it is no output write, and covers none of them
+pub record Spares (r : Request) : Type 0 where
+  pub no-write : writesOutputs (r .ask) ≡ false
+  pub none-covered : (i : ℕ) → i < image → covers i (r .ask) ≡ false
 
 -- the call brings no safe request
 abbrev pub BringsNone : Call → Type 0
@@ -189,10 +197,10 @@ pub data Did (v : View) (call : Call) (n : ℕ) (means : Event) : View → Type 
   heardOnly : (src cyc : ℕ) → means ≡ aSync src cyc → v .assigned ≡ true → (v .mode ≡ inRun → InTime v) → Did v call n means (hears src cyc v)
   enteredRun : (src cyc : ℕ) → means ≡ aSync src cyc → v .assigned ≡ true → v .mode ≡ inFallback → v .registers .rep ≡ released → Did v call n means (runs (hears src cyc v))
   takenOnly : (r : Request) {d : ℕ} → means ≡ aRefusedWrite r → InReach v r d → Did v call n means (takes d v)
-  asked : (r : Request) {d : ℕ} → means ≡ aRequest r → InReach v r d → writesOutputs (r .ask) ≡ false → Did v call n means (takes d v)
-  configured : (r : Request) (t c m : ℕ) {d : ℕ} → means ≡ aRequest r → InReach v r d → writesOutputs (r .ask) ≡ false → v .mode ≡ inFallback → Did v call n means (limits t c m (takes d v))
-  releasedBy : (r : Request) {d : ℕ} → means ≡ aRequest r → InReach v r d → writesOutputs (r .ask) ≡ false → ordersRelease (r .ask) ≡ true → Did v call n means (releases (takes d v))
-  withdrawn : (r : Request) {d : ℕ} → means ≡ aRequest r → InReach v r d → writesOutputs (r .ask) ≡ false → ordersFallback (r .ask) ≡ true → Did v call n means (fallen byOrder (takes d v))
+  asked : (r : Request) {d : ℕ} → means ≡ aRequest r → InReach v r d → Spares r → Did v call n means (takes d v)
+  configured : (r : Request) (t c m : ℕ) {d : ℕ} → means ≡ aRequest r → InReach v r d → Spares r → v .mode ≡ inFallback → Did v call n means (limits t c m (takes d v))
+  releasedBy : (r : Request) {d : ℕ} → means ≡ aRequest r → InReach v r d → Spares r → ordersRelease (r .ask) ≡ true → Did v call n means (releases (takes d v))
+  withdrawn : (r : Request) {d : ℕ} → means ≡ aRequest r → InReach v r d → Spares r → ordersFallback (r .ask) ≡ true → Did v call n means (fallen byOrder (takes d v))
   output : (r : Request) (add : ℕ) (xs : List ℕ) {d : ℕ} → isAccepted n ≡ true → means ≡ aRequest r → InReach v r d → writesOutputs (r .ask) ≡ true → v .mode ≡ inRun → LaidWrite call r add xs → Did v call n means (outputs add xs (takes d v))
   namedFirst : (sid : ℕ) → means ≡ anAssignment sid → v .assigned ≡ false → Did v call n means (named sid v)
   acknowledged : (sid : ℕ) → means ≡ anAssignment sid → v .assigned ≡ true → Did v call n means v

@@ -25,10 +25,10 @@ module _ (h : History) (v : View) (f : Facts v) (l : Linked h v) (call : Call) (
   kept-by (heardOnly src cyc ev known timely) = kept-heardOnly h v f l call n means src cyc ev
   kept-by (enteredRun src cyc ev known p q) = kept-enteredRun h v f l call n means src cyc ev p
   kept-by (takenOnly r ev reach) = kept-takenOnly h v f l r reach call n means ev
-  kept-by (asked r ev reach w) = kept-asked h v f l r reach call n means ev w
-  kept-by (configured r t c m ev reach w p) = kept-configured h v f l r reach call n means ev w t c m
-  kept-by (releasedBy r ev reach w o) = kept-releasedBy h v f l r reach call n means ev w o
-  kept-by (withdrawn r ev reach w o) = kept-withdrawn h v f l r reach call n means ev w byOrder
+  kept-by (asked r ev reach w) = kept-asked h v f l r reach call n means ev (w .no-write)
+  kept-by (configured r t c m ev reach w p) = kept-configured h v f l r reach call n means ev (w .no-write) t c m
+  kept-by (releasedBy r ev reach w o) = kept-releasedBy h v f l r reach call n means ev (w .no-write) o
+  kept-by (withdrawn r ev reach w o) = kept-withdrawn h v f l r reach call n means ev (w .no-write) byOrder
   kept-by (output r add xs zero ev reach w run laid) = kept-output h v f l r reach call n means add xs ev run zero w laid
   kept-by (namedFirst sid ev no-one) = kept-namedFirst h v f l call n means sid ev no-one
   kept-by (acknowledged sid ev named-is) = kept-acknowledged h v f l call n means sid ev named-is

@@ -32,6 +32,7 @@ pub mod SafeIsTimed
 pub mod SafeModules
 pub mod Deposed
 pub mod Grounds
+pub mod Terminals
 pub mod Proved
 pub mod Refuses
 pub mod RefusesWrites
@@ -39,7 +40,9 @@ pub mod RefusesSkips
 pub mod RefusesData
 pub mod RefusesTimes
 pub mod RefusesGrounds
+pub mod RefusesTerminals
 pub mod TickCalls
+pub mod Striking
 pub mod ReachedLaws
 pub mod Meant
 pub mod OneGround

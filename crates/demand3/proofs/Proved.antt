@@ -1,5 +1,5 @@
--- Demand 3, the sharper statements and that of register 26h, for every list of calls on a SIL2 module from power-up: each call is a
--- step.
+-- Demand 3, the sharper statements and those of register 26h and of the terminals, for every list of calls on a SIL2 module from
+-- power-up: each call is a step.
 -- Assumes nothing.
 use mathlib.Core.Bool.{true}
 use mathlib.Core.List.{List, [], _∷_}
@@ -22,6 +22,7 @@ use Rattle.demand3.specs.Grounds.{ShowsGround}
 use Rattle.demand3.specs.History.{History, powerOn, _▸_, entry, history}
 use Rattle.demand3.specs.Numbers.{isLimit}
 use Rattle.demand3.specs.Sharper.{Sharpened}
+use Rattle.demand3.specs.Terminals.{ShowsTerminals}
 use Rattle.demand3.proofs.AskedEvents.{means-asked}
 use Rattle.demand3.proofs.CallDid.{step-did}
 use Rattle.demand3.proofs.Deposed.{sharper}
@@ -29,6 +30,7 @@ use Rattle.demand3.proofs.Device.{HistoryOf, start, step}
 use Rattle.demand3.proofs.Grounds.{grounded}
 use Rattle.demand3.proofs.SafeModules.{StartsSafe, safeModule, holds}
 use Rattle.demand3.proofs.SameNumbers.{same-limit}
+use Rattle.demand3.proofs.Terminals.{terminals}
 use Rattle.demand3.proofs.ViewFacts.{good-facts}
 use Rattle.demand3.proofs.Views.{viewOf}
 
@@ -77,3 +79,7 @@ sharpened mac iid ver fixed f calls b = sharper (whole mac iid ver fixed f calls
 -- request 5: why the module is in fallback
 pub shows-ground : ShowsGround
 shows-ground mac iid ver fixed f calls b = grounded (whole mac iid ver fixed f calls b .1 .made)
+
+-- request 14: what the terminals show
+pub shows-terminals : ShowsTerminals
+shows-terminals mac iid ver fixed f calls b = terminals (whole mac iid ver fixed f calls b .1 .made)

@@ -1,4 +1,5 @@
 -- A call whose answer and agent are those of the rules continues every history. Assumes nothing.
+use mathlib.Core.Bool.{true}
 use mathlib.Core.List.{List, [], _∷_, _++_}
 use mathlib.Core.Path.{_≡_, refl, sym, ap, _∙_, subst}
 use Prim.Native.Nat.{ℕ}
@@ -13,10 +14,12 @@ use Rattle.demand3.specs.Claim.{BytesCalls, Holds}
 use Rattle.demand3.specs.Grounds.{Grounded}
 use Rattle.demand3.specs.History.{History, powerOn, _▸_, entryOf, entry, history}
 use Rattle.demand3.specs.Reached.{agentAfter, Reached, Begins, Continues}
-use Rattle.demand3.specs.Numbers.{unsound}
+use Rattle.demand3.specs.Numbers.{canBeStruck, unsound}
 use Rattle.demand3.specs.Sharper.{Sharper}
-use Rattle.demand3.proofs.Proved.{demand3, sharpened, shows-ground}
+use Rattle.demand3.specs.Terminals.{Terminals}
+use Rattle.demand3.proofs.Proved.{demand3, sharpened, shows-ground, shows-terminals}
 use Rattle.demand3.proofs.SameNumbers.{same-limit}
+use Rattle.demand3.proofs.Striking.{leaves}
 
 pub reached-holds : {h : History} {a : Agent} → Reached h a → Holds h
 reached-holds r = subst Holds (r .is-history) (demand3 (r .mac) (r .iid) (r .ver) (r .fixed) (r .fit) (r .calls) (r .bytes))
@@ -26,6 +29,9 @@ reached-sharper r = subst Sharper (r .is-history) (sharpened (r .mac) (r .iid) (
 
 pub reached-grounded : {h : History} {a : Agent} → Reached h a → Grounded h
 reached-grounded r = subst Grounded (r .is-history) (shows-ground (r .mac) (r .iid) (r .ver) (r .fixed) (r .fit) (r .calls) (r .bytes))
+
+pub reached-terminals : {h : History} {a : Agent} → Reached h a → Terminals h
+reached-terminals r = subst Terminals (r .is-history) (shows-terminals (r .mac) (r .iid) (r .ver) (r .fixed) (r .fit) (r .calls) (r .bytes))
 
 -- one call more
 pub after-more : (a : Agent) (xs : List Call) (x : Call) → agentAfter a (xs ++ (x ∷ [])) ≡ act (agentAfter a xs) x .agent
@@ -81,7 +87,18 @@ module _ (h : History) (a : Agent) (r : Reached h a) (call : Call) (is-bytes : B
     is-agent = same-agent;
   }
 
+-- a call that can be struck leaves the agent as it was
+struck-leaves : (a : Agent) (call : Call) (answer : ℕ) (b : Agent) → Answers (act a call) answer b → canBeStruck answer ≡ true → b ≡ a
+struck-leaves a call answer b does s = does .1 ∙ leaves a call (subst (λ (n : ℕ). canBeStruck n ≡ true) (does .0) s) .0
+
 pub continues : (a : Agent) (call : Call) → BytesCall call → (answer : ℕ) (b : Agent) → Answers (act a call) answer b → Continues a call answer b
 continues a call is-bytes answer b does h r =
     let more = reached-more h a r call is-bytes answer b does in
-    record { reached = more; holds = reached-holds more; sharper = reached-sharper more; grounded = reached-grounded more }
+    record {
+      reached = more;
+      holds = reached-holds more;
+      sharper = reached-sharper more;
+      grounded = reached-grounded more;
+      terminals = reached-terminals more;
+      struck = struck-leaves a call answer b does;
+    }

@@ -1,6 +1,6 @@
 -- A safe request that passes the tests has the number due or one at most three past it. Assumes nothing.
 use mathlib.Core.Bool.{true}
-use mathlib.Core.Path.{_≡_, _∙_, subst}
+use mathlib.Core.Path.{_≡_, refl, _∙_, subst}
 use mathlib.Core.List.{List}
 use Prim.Native.Nat.{ℕ, _+_, _%_, _<_}
 use native.Mathlib.Omega.{arith}
@@ -70,4 +70,5 @@ is-laid {dest = dest} {src = src} {cyc = cyc} {seq = seq} {datl = datl} {add = a
   called = c .called;
   laid = c .laid;
   length-is = data-length (c .address) dest src cyc seq datl add (length xs) (c .fit);
+  ask = refl;
 }

@@ -14,6 +14,7 @@ use Rattle.rules.specs.Answers as Answers
 use Rattle.rules.specs.Fallback.{released, withheld}
 use Rattle.rules.specs.Fixed as Limit
 use Rattle.rules.specs.Grounds as Grounds
+use Rattle.rules.specs.Refusals.{leavesAll}
 use Rattle.rules.specs.Registers as Registers
 use Rattle.rules.specs.Requests as Requests
 use Rattle.rules.specs.State as State
@@ -24,7 +25,7 @@ use Rattle.rules.specs.declared.Span.{Span}
 use Rattle.rules.specs.declared.Span.the-variants.{Release, CycleTime, Limits, Counters, Config, Outputs, Outside}
 use Rattle.rules.proofs.SoundParts.{fits-is}
 use Rattle.rules.proofs.Spans.{InSpan, in-span}
-use Rattle.demand3.specs.Numbers.{inRun, inFallback, tcyc, cnfRep, cnfCyc, groundAt, outputsAt, lastOutput, image, isLimit, mostSkipped, window, noGround, bySyncSilence, byCommandSilence, byWrongCycle, byOrder, byWindow, accepted, cycle, outsideRules, unsound, outsideWindow, isAccepted, firstSeq, writesRelease, writesFallback, writesWithinOutputs}
+use Rattle.demand3.specs.Numbers.{inRun, inFallback, tcyc, cnfRep, cnfCyc, groundAt, outputsAt, lastOutput, image, isLimit, mostSkipped, window, noGround, bySyncSilence, byCommandSilence, byWrongCycle, byOrder, byWindow, accepted, cycle, outsideRules, unsound, outsideWindow, canBeStruck, isAccepted, firstSeq, writesRelease, writesFallback, writesWithinOutputs}
 
 pub same-modes : (inRun ≡ State.inRun) × (inFallback ≡ State.inFallback)
 same-modes = (refl, refl)
@@ -40,6 +41,9 @@ same-answers = (refl, refl, refl, refl, refl)
 
 pub same-accepted : (n : ℕ) → isAccepted n ≡ Answers.isAccepted n
 same-accepted n = refl
+
+pub same-struck : (n : ℕ) → canBeStruck n ≡ leavesAll n
+same-struck n = refl
 
 pub same-first-seq : (cyc : ℕ) → firstSeq cyc ≡ Requests.firstSeq cyc
 same-first-seq cyc = refl

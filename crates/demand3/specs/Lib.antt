@@ -5,4 +5,6 @@ pub mod Words
 pub mod Claim
 pub mod Sharper
 pub mod Grounds
+pub mod Terminals
 pub mod Reached
+pub mod Striking

@@ -83,6 +83,10 @@ unsound = 19
 abbrev pub outsideWindow : ℕ
 outsideWindow = 22
 
+-- the answers of calls that can be struck from a list: another's address, CRC, source, addressee, repeat
+abbrev pub canBeStruck : ℕ → Bool
+canBeStruck n = eqb n 6 || (eqb n 9 || (eqb n 10 || (eqb n 11 || eqb n 13)))
+
 -- accepted: answered 0
 abbrev pub isAccepted : ℕ → Bool
 isAccepted n = eqb n accepted

@@ -1,5 +1,5 @@
--- Demand 3, and what 26h shows, as a clause of a contract: what one call adds to every history from power-up that ended in the
--- agent passed to it. Power-up begins a history, each call continues it, and both hold at each step. Assumes nothing.
+-- Demand 3, and what 26h and the terminals show, as a clause of a contract: what one call adds to every history from power-up that
+-- ended in the agent passed to it. Power-up begins a history, each call continues it, and all of it holds at each step. Assumes nothing.
 use mathlib.Core.Bool.{true, false}
 use mathlib.Core.List.{List, [], _∷_}
 use mathlib.Core.Path.{_≡_}
@@ -12,8 +12,9 @@ use Rattle.rules.specs.declared.Fixed.{Fixed}
 use Rattle.demand3.specs.Claim.{BytesCalls, Holds}
 use Rattle.demand3.specs.Grounds.{Grounded}
 use Rattle.demand3.specs.History.{History, powerOn, _▸_, entryOf, history}
-use Rattle.demand3.specs.Numbers.{isLimit, unsound}
+use Rattle.demand3.specs.Numbers.{isLimit, canBeStruck, unsound}
 use Rattle.demand3.specs.Sharper.{Sharper}
+use Rattle.demand3.specs.Terminals.{Terminals}
 
 -- the agent after a list of calls
 abbrev pub agentAfter : Agent → List Call → Agent
@@ -40,12 +41,15 @@ pub record Begins (fixed : Fixed) (a : Agent) : Type 0 where
   pub unfit : isLimit (fixed .limit) ≡ false → (call : Call) → act a call ≡ outcome unsound a
 
 -- the history with one more call, made on the agent a, with this answer, leaving the agent b: it is a history from
--- power-up too, and demand 3, the sharper statements and that of register 26h hold of it
+-- power-up too, and demand 3, the sharper statements and those of register 26h and the terminals hold of it. A call that can be
+-- struck leaves the agent as it was
 pub record Next (h : History) (a : Agent) (call : Call) (answer : ℕ) (b : Agent) : Type 0 where
   pub reached : Reached (h ▸ entryOf a call answer b) b
   pub holds : Holds (h ▸ entryOf a call answer b)
   pub sharper : Sharper (h ▸ entryOf a call answer b)
   pub grounded : Grounded (h ▸ entryOf a call answer b)
+  pub terminals : Terminals (h ▸ entryOf a call answer b)
+  pub struck : canBeStruck answer ≡ true → b ≡ a
 
 -- this holds for every history that ended in a
 abbrev pub Continues : Agent → Call → ℕ → Agent → Type 0

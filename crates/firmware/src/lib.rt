@@ -1,6 +1,6 @@
 // The firmware's interface: the firmware owns the agent, and each call alters it in place. Thin functions over the
-// calls by value; include/saturn.h is the header for C. Demand 3, with what 26h shows, is a clause of each contract: power-up
-// begins a history, and each call continues every history that ended in the agent passed to it.
+// calls by value; include/saturn.h is the header for C. Demand 3, with what 26h and the terminals show, is a clause of each contract:
+// power-up begins a history, and each call continues every history that ended in the agent passed to it.
 ghost use mathlib.Core.Path.{_≡_};
 ghost use lib.ListN.{length};
 ghost use Rattle.rules.specs.Calls.{tick, frame, tickCall, frameCall, Answers, AnswersFrame};

@@ -9,20 +9,22 @@ use lib.Dec.{eqb}
 use lib.Bits.{bitAnd, bitOr}
 use lib.ListN.{length, replicate, getD-replicate}
 use lib.Seq.{sets, length-sets}
-use Rattle.base.proofs.Choosing.{choose-true, or-second}
+use Rattle.base.proofs.Choosing.{by-test, choose-true, or-second}
 use Rattle.base.proofs.Stored.{stored-behind, stored-in}
 use Rattle.rules.specs.Answers.{source, cycle, repeat}
-use Rattle.rules.specs.Fallback.{withheld, groundAfter, enterFallback, enterRun}
+use Rattle.rules.specs.Fallback.{released, withheld, groundAfter, enterFallback, enterRun}
+use Rattle.rules.specs.Good.{Good}
 use Rattle.rules.specs.Grounds.{bySyncSilence}
 use Rattle.rules.specs.Marks.{sequenceMarked}
 use Rattle.rules.specs.Registers.{outRep, statut, groundAt, outputsAt, image}
 use Rattle.rules.specs.Replies.{does}
 use Rattle.rules.specs.Requests.{Ask, onRequest}
 use Rattle.rules.specs.Sources.{isRecorded, sidOf}
-use Rattle.rules.specs.State.{isHeard, nobody, running, reg}
-use Rattle.rules.specs.Sync.{isRepeat, cycleFits, onSync}
+use Rattle.rules.specs.State.{inFallback, isHeard, nobody, running, reg}
+use Rattle.rules.specs.Sync.{isRepeat, cycleFits, heardSync, synced, onSync}
 use Rattle.rules.specs.Tick.{syncLimit, limited}
 use Rattle.rules.specs.declared.Agent.{Agent}
+use Rattle.rules.proofs.GoodFacts.{fallback-zero}
 
 module _ (port : ℕ) (a : Agent) (src cyc : ℕ) (known : (eqb src nobody || not (isRecorded a src)) ≡ false) where
   -- a repeated sync is 13 and changes nothing, so k is not reset; 13 comes before 12
@@ -78,3 +80,11 @@ run-restarts a = refl
 pub run-keeps-ground : (a : Agent) → reg (enterRun a) groundAt ≡ reg a groundAt
 unfolding enterRun
 run-keeps-ground a = stored-behind (a .regs) statut (bitAnd (reg a statut) 0x7F ∷ []) groundAt (omega arith)
+
+-- and every output is 00h there: a sound state in fallback has them so, and the way to RUN leaves them
+pub run-starts-zero : (a : Agent) → Good a → a .mode ≡ inFallback → (src cyc i : ℕ) → i < image → reg (synced src cyc a) (outputsAt + i) ≡ 0
+unfolding synced heardSync enterRun
+run-starts-zero a g m src cyc i h =
+    by-test (λ (b : Agent). reg b (outputsAt + i) ≡ 0) (not (running a) && eqb (reg a outRep) released)
+    (λ e. stored-behind (a .regs) statut (bitAnd (reg a statut) 0x7F ∷ []) (outputsAt + i) (omega arith) ∙ fallback-zero a g m i h)
+    (λ e. fallback-zero a g m i h)

@@ -1,7 +1,7 @@
 -- Demand 1, over every call and every agent: a refusal sends nothing, leaves the reply buffer untouched, and changes exactly
 -- what its number's row says. Assumes nothing.
 use mathlib.Core.Bool.{Bool, true, not, _&&_}
-use mathlib.Core.List.{List}
+use mathlib.Core.List.{List, []}
 use mathlib.Core.Path.{_≡_, refl, sym, ap, _∙_, subst}
 use Prim.Native.Nat.{ℕ, _+_, _-_, _≤_}
 use native.Mathlib.Omega.{arith}
@@ -10,9 +10,9 @@ use lib.Dec.{eqb, leb}
 use Rattle.base.proofs.Choosing.{never, and-left, and-right, and-true, or-cases}
 use Rattle.frame_kinds.specs.declared.kinds.Frame.{Frame}
 use Rattle.frame_forms.specs.declared.Read.{Read}
-use Rattle.rules.specs.Answers.{accepted, bodyLength, eightOthers, cycle, elsewhere, crc, source, addressee, repeat, replyRoom, hostInput, outsideWindow}
+use Rattle.rules.specs.Answers.{accepted, bodyLength, reserved, elsewhere, form, crc, source, addressee, cycle, repeat, tooMany, notAllowed, eightOthers, unsound, replyRoom, hostInput, outsideWindow}
 use Rattle.rules.specs.Calls.{Call, frame, act}
-use Rattle.rules.specs.Refusals.{Change, nothing, isRefusal, rowOf, changed, leavesAll, readOf, isSync, readsSync, syncInRun, skipsBy, skipsRead, skips, Refused}
+use Rattle.rules.specs.Refusals.{Change, nothing, isRefusal, rowOf, changed, leavesAll, leavesToo, readOf, isSync, readsSync, syncInRun, skipsBy, skipsRead, skips, Refused}
 use Rattle.rules.specs.Replies.{Outcome, outcome, sent}
 use Rattle.rules.specs.Marks.{skipMarked}
 use Rattle.rules.specs.Requests.{distance}
@@ -99,8 +99,28 @@ kept-row b s n h =
     (λ h2. or-cases (eqb n source) _ h2 (λ e. rw (eqb-true n source e) refl)
     (λ h3. or-cases (eqb n addressee) (eqb n repeat) h3 (λ e. rw (eqb-true n addressee e) refl) (λ e. rw (eqb-true n repeat e) refl))))
 
--- 6, 9, 10, 11 and 13 leave the agent as it is
-pub untouched : (a : Agent) (call : Call) → leavesAll (act a call .answer) ≡ true → act a call .agent ≡ a
+-- and so for the others
+kept-row-too : (b : Bool) (s n : ℕ) → leavesToo n ≡ true → rowOf b s n ≡ nothing
+kept-row-too b s n h =
+    or-cases (eqb n reserved) _ h (λ e. rw (eqb-true n reserved e) refl)
+    (λ h1. or-cases (eqb n form) _ h1 (λ e. rw (eqb-true n form e) refl)
+    (λ h2. or-cases (eqb n tooMany) _ h2 (λ e. rw (eqb-true n tooMany e) refl)
+    (λ h3. or-cases (eqb n notAllowed) _ h3 (λ e. rw (eqb-true n notAllowed e) refl)
+    (λ h4. or-cases (eqb n eightOthers) _ h4 (λ e. rw (eqb-true n eightOthers e) refl)
+    (λ h5. or-cases (eqb n unsound) _ h5 (λ e. rw (eqb-true n unsound e) refl)
+    (λ h6. or-cases (eqb n replyRoom) (eqb n hostInput) h6 (λ e. rw (eqb-true n replyRoom e) refl) (λ e. rw (eqb-true n hostInput e) refl)))))))
+
+-- a refusal with an empty row leaves the agent as it is, and sends nothing
+emptied : (a : Agent) (call : Call) → (act a call .answer ≡ accepted → ⊥) → rowOf (syncInRun a call) (skips a call) (act a call .answer) ≡ nothing
+    → (act a call .agent ≡ a) × (act a call .line ≡ [])
+emptied a call z e = let r = refused a call z in (r .state ∙ ap (λ (c : Change). changed c a) e, r .silent)
+
+-- 6, 9, 10, 11 and 13 leave no trace
+pub untouched : (a : Agent) (call : Call) → leavesAll (act a call .answer) ≡ true → (act a call .agent ≡ a) × (act a call .line ≡ [])
 untouched a call h =
-    refused a call (λ z. never (subst (λ (n : ℕ). leavesAll n ≡ true) z h)) .state
-    ∙ ap (λ (c : Change). changed c a) (kept-row (syncInRun a call) (skips a call) (act a call .answer) h)
+    emptied a call (λ z. never (subst (λ (n : ℕ). leavesAll n ≡ true) z h)) (kept-row (syncInRun a call) (skips a call) (act a call .answer) h)
+
+-- and so do 5, 8, 15 and 17 to 21
+pub untouched-too : (a : Agent) (call : Call) → leavesToo (act a call .answer) ≡ true → (act a call .agent ≡ a) × (act a call .line ≡ [])
+untouched-too a call h =
+    emptied a call (λ z. never (subst (λ (n : ℕ). leavesToo n ≡ true) z h)) (kept-row-too (syncInRun a call) (skips a call) (act a call .answer) h)

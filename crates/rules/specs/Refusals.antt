@@ -15,7 +15,7 @@ use Rattle.frame_kinds.specs.declared.kinds.Frame.{Frame}
 use Rattle.frame_kinds.specs.declared.kinds.Frame.the-variants.{Sync, SafeRead, SafeWrite, PlainRead, PlainWrite, SafeResponse, PlainSyncResponse, PlainResponse, TidAssignment, SidAssignment, SidAssignment4, Acknowledgement, Invariants}
 use Rattle.frame_forms.specs.declared.Read.{Read}
 use Rattle.frame_forms.specs.declared.Read.the-variants.{Valid, Kind, Form, Check}
-use Rattle.rules.specs.Answers.{bodyLength, fcs, reserved, elsewhere, typ, form, crc, source, addressee, cycle, repeat, outOfOrder, tooMany, outsideRules, outsideWindow}
+use Rattle.rules.specs.Answers.{bodyLength, fcs, reserved, elsewhere, typ, form, crc, source, addressee, cycle, repeat, outOfOrder, tooMany, outsideRules, notAllowed, eightOthers, unsound, replyRoom, hostInput, outsideWindow}
 use Rattle.rules.specs.Calls.{Call, tick, frame, leftIn}
 use Rattle.rules.specs.Fallback.{withheld, groundAfter, enterFallback}
 use Rattle.rules.specs.FrameCall.{agentRead}
@@ -71,6 +71,12 @@ rowOf toSync skips n =
 -- 6, 9, 10, 11 and 13, which leave no trace
 abbrev pub leavesAll : ℕ → Bool
 leavesAll n = eqb n elsewhere || (eqb n crc || (eqb n source || (eqb n addressee || eqb n repeat)))
+
+-- the others that leave none: 5, 8, 15 and 17 to 21
+abbrev pub leavesToo : ℕ → Bool
+leavesToo n =
+    eqb n reserved
+    || (eqb n form || (eqb n tooMany || (eqb n notAllowed || (eqb n eightOthers || (eqb n unsound || (eqb n replyRoom || eqb n hostInput))))))
 
 -- the whole agent after a change
 abbrev pub changed : Change → Agent → Agent

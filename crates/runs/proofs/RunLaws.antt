@@ -11,7 +11,7 @@ use Rattle.rules.specs.Calls.{Call}
 use Rattle.rules.specs.declared.Agent.{Agent}
 use Rattle.demand3.specs.History.{History, powerOn, _▸_, entryOf}
 use Rattle.demand3.specs.Reached.{Reached, Continues}
-use Rattle.demand3.proofs.ReachedLaws.{reached-holds, reached-sharper, reached-grounded}
+use Rattle.demand3.proofs.ReachedLaws.{reached-holds, reached-sharper, reached-grounded, reached-terminals}
 use Rattle.runs.specs.CallBytes.{bytesIn, heading, callBytes, listBytes, AllMakable, Stepped}
 use Rattle.runs.specs.Log.{recordOf, recordSize, logged, Ran}
 use Rattle.runs.proofs.LogLaws.{Finished, callsOf, lastOf, historyOf, recordsOf, calls-more, last-more, history-more, records-more, logged-is, one-more}
@@ -125,4 +125,4 @@ module _ (start : Agent) (room : ℕ) (calls : List Call) (s : List ℕ) (at to 
   pub ran : length s ≤ at → Ran calls a log
   ran h =
       let r : Reached (logged powerOn calls log) a = subst (λ (g : History). Reached g a) (same-history h) (p .reached) in
-      record { holds = reached-holds r; sharper = reached-sharper r; grounded = reached-grounded r; reached = r }
+      record { holds = reached-holds r; sharper = reached-sharper r; grounded = reached-grounded r; terminals = reached-terminals r; reached = r }

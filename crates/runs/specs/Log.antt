@@ -13,6 +13,7 @@ use Rattle.demand3.specs.History.{History, powerOn, _▸_, Seen, seenOf, callEn
 use Rattle.demand3.specs.Numbers.{isLimit}
 use Rattle.demand3.specs.Reached.{Reached}
 use Rattle.demand3.specs.Sharper.{Sharper}
+use Rattle.demand3.specs.Terminals.{Terminals}
 use Rattle.runs.specs.CallBytes.{listBytes, AllMakable}
 
 -- a record at power-up and after each call: the answer (0 at power-up), the mode and the 256 registers
@@ -32,12 +33,13 @@ logged h [] l = h
 logged h (x ∷ xs) l =
     logged (h ▸ callEntry x (getD l recordSize 0) (seenIn l) (seenIn (drop recordSize l))) xs (drop recordSize l)
 
--- a run of the code over the whole list from power-up: demand 3, the sharper statements and that of register 26h hold of the
--- history that it wrote down, and the agent that it returned is the one at its end
+-- a run of the code over the whole list from power-up: demand 3, the sharper statements and those of register 26h and of the
+-- terminals hold of the history that it wrote down, and the agent that it returned is the one at its end
 pub record Ran (calls : List Call) (a : Agent) (log : List ℕ) : Type 0 where
   pub holds : Holds (logged powerOn calls log)
   pub sharper : Sharper (logged powerOn calls log)
   pub grounded : Grounded (logged powerOn calls log)
+  pub terminals : Terminals (logged powerOn calls log)
   pub reached : Reached (logged powerOn calls log) a
 
 -- this holds for a limit of requests that is 16 or 64 and every list of calls that the bytes s stand for, with a reply buffer

@@ -1,6 +1,7 @@
 //! Self checks: stored vectors, published and proved values, round trips of every kind, the
 //! cases on the bench, what the host may do wrong, the limit of requests, the numbers skipped, the tick
-//! call, the window of syncs, the ground of fallback, the traps, the script and the frame program.
+//! call, the window of syncs, the ground of fallback, the traps, the script and the frame program, what the
+//! terminals show and what striking refused frames leaves.
 
 mod bench;
 mod ground;
@@ -9,13 +10,21 @@ mod host;
 mod limit;
 mod lists;
 mod module;
+mod printed;
+mod programs;
+mod refusals;
 mod rules;
 mod script;
 mod skip;
 mod spelling;
+mod strike;
+mod struck;
+mod tape;
+mod terminals;
 mod tick;
 mod traps;
 mod window;
+mod wrong;
 
 use crate::body;
 use crate::cases::KINDS;
@@ -62,6 +71,11 @@ pub fn run() -> Tally {
     script::run(&mut tally);
     spelling::run(&mut tally);
     lists::run(&mut tally);
+    terminals::run(&mut tally);
+    printed::run(&mut tally);
+    struck::run(&mut tally);
+    strike::run(&mut tally);
+    wrong::run(&mut tally);
     let random = &mut Random::new(7);
     for kind in 0..KINDS {
         for datl in [0, 1, 2, 7, 30, 253, 254] {

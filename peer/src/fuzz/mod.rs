@@ -1,9 +1,9 @@
 //! Fresh scripts through this trace program and another: they must print the same.
 
-mod mutate;
-mod other;
+pub(crate) mod mutate;
+pub(crate) mod other;
 mod report;
-mod shrink;
+pub(crate) mod shrink;
 
 use crate::generate;
 use crate::generate::random::Random;
@@ -51,7 +51,7 @@ pub fn run(count: usize, seed: u64, command: &[&str]) -> io::Result<Report> {
 }
 
 /// Some hundred lines as the generator makes them, or those with some out of place.
-fn script_lines(seed: u64) -> Vec<Vec<u8>> {
+pub(crate) fn script_lines(seed: u64) -> Vec<Vec<u8>> {
     let random = &mut Random::new(!seed);
     let count = match random.one_in(LONG_ONE_IN) {
         true => 3000,
@@ -66,13 +66,17 @@ fn script_lines(seed: u64) -> Vec<Vec<u8>> {
     lines
 }
 
-fn text(lines: &[Vec<u8>]) -> Vec<u8> {
-    let mut text = lines.join(&b'\n');
-    text.push(b'\n');
+/// Each line with its LF; nothing for no line.
+pub(crate) fn text<L: AsRef<[u8]>>(lines: &[L]) -> Vec<u8> {
+    let mut text = Vec::new();
+    for line in lines {
+        text.extend(line.as_ref());
+        text.push(b'\n');
+    }
     text
 }
 
-fn trace(text: &[u8]) -> Vec<u8> {
+pub(crate) fn trace(text: &[u8]) -> Vec<u8> {
     let mut output = Vec::new();
     script::run(Program::Trace, text, &mut output).expect("memory takes any text");
     output

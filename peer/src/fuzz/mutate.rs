@@ -33,7 +33,7 @@ fn inputs(random: &mut Random) -> Vec<u8> {
     format!("I {}", hex::encode(&inputs)).into_bytes()
 }
 
-fn on_other_port(line: &[u8]) -> Vec<u8> {
+pub(crate) fn on_other_port(line: &[u8]) -> Vec<u8> {
     let mut line = line.to_vec();
     match line.first_mut() {
         Some(port @ b'1') => *port = b'2',

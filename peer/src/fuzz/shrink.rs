@@ -2,9 +2,15 @@
 
 use std::io;
 
-type Lines = Vec<Vec<u8>>;
+/// A line, perhaps with something noted beside it that goes with it.
+pub trait Line: Clone + AsRef<[u8]> + From<Vec<u8>> {}
 
-pub fn shortest(lines: Lines, fails: impl Fn(&Lines) -> io::Result<bool>) -> io::Result<Lines> {
+impl<L: Clone + AsRef<[u8]> + From<Vec<u8>>> Line for L {}
+
+pub fn shortest<L: Line>(
+    lines: Vec<L>,
+    fails: impl Fn(&[L]) -> io::Result<bool>,
+) -> io::Result<Vec<L>> {
     let mut lines = lines;
     let mut size = lines.len() / 2;
     while size > 0 {
@@ -19,11 +25,11 @@ pub fn shortest(lines: Lines, fails: impl Fn(&Lines) -> io::Result<bool>) -> io:
 }
 
 /// Each run of `size` lines is deleted if the rest still fails; returns whether any was.
-fn without_chunks(
-    lines: Lines,
+fn without_chunks<L: Line>(
+    lines: Vec<L>,
     size: usize,
-    fails: &impl Fn(&Lines) -> io::Result<bool>,
-) -> io::Result<(Lines, bool)> {
+    fails: &impl Fn(&[L]) -> io::Result<bool>,
+) -> io::Result<(Vec<L>, bool)> {
     let (mut lines, mut any, mut start) = (lines, false, 0);
     while start < lines.len() && lines.len() > 1 {
         let end = (start + size).min(lines.len());
@@ -38,11 +44,14 @@ fn without_chunks(
 }
 
 /// Waits made as short as possible, by halves.
-fn fewer_ticks(mut lines: Lines, fails: &impl Fn(&Lines) -> io::Result<bool>) -> io::Result<Lines> {
+fn fewer_ticks<L: Line>(
+    mut lines: Vec<L>,
+    fails: &impl Fn(&[L]) -> io::Result<bool>,
+) -> io::Result<Vec<L>> {
     for place in 0..lines.len() {
-        while let Some(count) = ticks(&lines[place]).filter(|&count| count > 1) {
+        while let Some(count) = ticks(lines[place].as_ref()).filter(|&count| count > 1) {
             let mut shorter = lines.clone();
-            shorter[place] = format!("T {}", count / 2).into_bytes();
+            shorter[place] = format!("T {}", count / 2).into_bytes().into();
             if !fails(&shorter)? {
                 break;
             }

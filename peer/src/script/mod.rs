@@ -19,7 +19,7 @@ pub enum Program {
 }
 
 impl Program {
-    fn header(self) -> &'static [u8] {
+    pub(crate) fn header(self) -> &'static [u8] {
         match self {
             Program::Script => b"LINE ANSWER MODE CYC\n",
             Program::Trace => b"LINE ANSWER MODE CYC REPLY REGISTERS\n",
@@ -47,7 +47,7 @@ pub fn run(program: Program, input: impl Read, mut output: impl Write) -> io::Re
     }
 }
 
-fn print(
+pub(crate) fn print(
     program: Program,
     output: &mut impl Write,
     number: u64,
