@@ -9,8 +9,8 @@ use lib.Seq.{take-at, length-sets}
 use Rattle.base.specs.Bytes.{bytesOf}
 use Rattle.base.proofs.Numbers.{length-bytesOf}
 use Rattle.base.proofs.Sets.{sets-front}
-use Rattle.text.specs.Putting.{hexText}
-use Rattle.text.proofs.PuttingLaws.{Put, Wrote, put-whole, wrote-both, text-length}
+use Rattle.text.specs.Putting.{hexText, Wrote}
+use Rattle.text.proofs.PuttingLaws.{Put, put-whole, wrote-both, text-length}
 use Rattle.frame_words.specs.Chars.{chars}
 use Rattle.frame_words.specs.Texts.{noText, put, puts, textIn}
 use Rattle.frame_words.specs.declared.texts.Text.{Text}

@@ -251,7 +251,7 @@ module _ {S : Type 0} (P : Program S) where
   -- ---- a program may stop where nothing that follows would be answered: what it has said, and says then, is the transcript of every
   -- input that goes on from there
   module _ (s : S) (q : Quiet P s) where
-    quiet-rest : (ls : List (List ℕ)) → (nextAll P s ls ≡ s) × (saysAll P s ls ≡ [])
+    pub quiet-rest : (ls : List (List ℕ)) → (nextAll P s ls ≡ s) × (saysAll P s ls ≡ [])
     quiet-rest [] = (refl, refl)
     quiet-rest (l ∷ ls) =
         let k = quiet-rest ls in (

@@ -2,17 +2,15 @@
 use mathlib.Core.List.{List, []}
 use Prim.Native.Nat.{ℕ, _+_, _%_, _^_}
 use Rattle.console.specs.Programs.{Program}
-use Rattle.rules.specs.Fixed.{doorsLimit, fixedBy}
-use Rattle.rules.specs.PowerUp.{powerUp}
 use Rattle.script_lines.specs.Forms.{Step, isBad, lineOf}
-use Rattle.script_lines.specs.Doing.{done}
+use Rattle.script_lines.specs.Doing.{scriptModule, done}
 use Rattle.script_text.specs.Printing.{headerOf, printed}
 use Rattle.script.specs.declared.playing.Player.{Player}
 use Rattle.script_text.specs.declared.View.{View}
 
--- power-up with MAC 1, IID 2, VER 0 and the limit of doors, before the first line
+-- before the first line
 abbrev pub start : Player
-start = record { agent = powerUp 1 2 0 (fixedBy doorsLimit); lines = 0 }
+start = record { agent = scriptModule; lines = 0 }
 
 -- the number of the next line, in 64 bits
 abbrev pub numberOf : Player → ℕ

@@ -7,12 +7,11 @@ ghost use Rattle.agent_replies.specs.Handling.{told};
 ghost use Rattle.script_lines.specs.Forms.{lineIn, stepIn};
 ghost use Rattle.script_text.specs.Printing.{printed};
 ghost use Rattle.script.specs.Playing.{start, after, shown};
-use agent::power_up::power_up;
 use agent_replies::sending::Handled;
-use agent_state::limit::DOORS_LIMIT;
 use rules::Agent;
 use script_lines::doing::do_form;
 use script_lines::doing::no_reply;
+use script_lines::doing::script_module;
 use script_lines::forms::Form;
 use script_lines::forms::is_bad;
 use script_lines::forms::no_bytes;
@@ -33,11 +32,11 @@ pub struct Played {
     pub next: usize,
 }
 
-// Power-up with MAC 1, IID 2, VER 0 and the limit of doors, 64.
+// Before the first line.
 pub fn start() -> Player
     ensures { λ r. ⌜ r ≡ start ⌝ }
 {
-    let agent = power_up(1, 2, 0, DOORS_LIMIT);
+    let agent = script_module();
     Player { agent, lines: 0 }
 }
 

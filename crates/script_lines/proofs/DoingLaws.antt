@@ -27,11 +27,13 @@ module _ (h : Handled) (o : Outcome) (out : List ℕ) (p : h .answer ≡ o .answ
   same-outcome : take (h .sent) out ≡ o .line → told h out ≡ o
   same-outcome e = rw (p, q, e)
 
-  pub told-frame : (buf : List ℕ) (o′ : Outcome) → out ≡ leftIn o buf → length out ≡ 545 → o ≡ o′ → (h .sent ≤ 545) × (told h out ≡ o′)
+  pub told-frame : (buf : List ℕ) (o′ : Outcome) → out ≡ leftIn o buf → length out ≡ 545 → o ≡ o′ → (h .sent ≤ 545) × (told h out ≡ o′) × (h .sent ≡ length (o′ .line))
   told-frame buf o′ l n e = (
     omega (arith, r, n, ap length l, length-append (o .line) (drop (length (o .line)) buf)),
     same-outcome (ap (take (h .sent)) l ∙ take-at (o .line) (drop (length (o .line)) buf) (h .sent) (sym r)) ∙ e,
+    r ∙ ap (λ (x : Outcome). length (x .line)) e,
   )
 
-pub told-accepted : (h : Handled) (a : Agent) (out : List ℕ) → (h .answer ≡ 0) × (h .agent ≡ a) × (h .sent ≡ 0) → (h .sent ≤ 545) × (told h out ≡ outcome 0 a)
-told-accepted h a out e = (omega (arith, e .2), same-outcome h (outcome 0 a) out (e .0) (e .1) (e .2) (ap (λ (n : ℕ). take n out) (e .2)))
+pub told-accepted : (h : Handled) (a : Agent) (out : List ℕ) → (h .answer ≡ 0) × (h .agent ≡ a) × (h .sent ≡ 0) → (h .sent ≤ 545) × (told h out ≡ outcome 0 a) × (h .sent ≡ 0)
+told-accepted h a out e =
+    (omega (arith, e .2), same-outcome h (outcome 0 a) out (e .0) (e .1) (e .2) (ap (λ (n : ℕ). take n out) (e .2)), e .2)

@@ -1,2 +1,4 @@
 pub mod FormLaws
 pub mod DoingLaws
+pub mod LineKept
+pub mod GoodLines

@@ -1,13 +1,19 @@
--- What a line does to the module. Assumes nothing.
+-- The module of a script, and what a line does to it. Assumes nothing.
 use mathlib.Core.List.{List}
 use Prim.Native.Nat.{ℕ, zero, suc}
 use lib.ListN.{take, drop}
 use Rattle.rules.specs.Answers.{accepted}
 use Rattle.rules.specs.Calls.{leastRoom, tickCall, frameCall}
+use Rattle.rules.specs.Fixed.{doorsLimit, fixedBy}
+use Rattle.rules.specs.PowerUp.{powerUp}
 use Rattle.rules.specs.Registers.{inputsAt, image}
 use Rattle.rules.specs.Replies.{Outcome, outcome}
 use Rattle.rules.specs.declared.Agent.{Agent}
 use Rattle.script_lines.specs.Forms.{Step, ticks, frame, inputs, bad}
+
+-- "The script's module starts at power-up with MAC 1, IID 2 and VER 0"; its limit of requests is that of doors
+abbrev pub scriptModule : Agent
+scriptModule = powerUp 1 2 0 (fixedBy doorsLimit)
 
 -- the inputs held: registers C0h to FFh (document 02: "`I` now does both, and `T` repeats the inputs already held")
 abbrev pub heldInputs : Agent → List ℕ

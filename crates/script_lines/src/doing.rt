@@ -1,20 +1,29 @@
-// What a line does to the module.
+// The module of a script, and what a line does to it.
 ghost use mathlib.Core.Path.{_≡_};
 ghost use Prim.Native.Nat.{_≤_};
-ghost use lib.ListN.{take, replicate};
+ghost use lib.ListN.{length, take, replicate};
 ghost use Rattle.rules.specs.Calls.{tickCall, frameCall};
 ghost use Rattle.rules.specs.Registers.{image};
 ghost use Rattle.agent_replies.specs.Handling.{told};
 ghost use Rattle.script_lines.specs.Forms.{stepIn};
-ghost use Rattle.script_lines.specs.Doing.{heldInputs, afterTicks, done};
+ghost use Rattle.script_lines.specs.Doing.{scriptModule, heldInputs, afterTicks, done};
 use crate::forms::Form;
 use crate::forms::IMAGE;
 use agent::calls;
+use agent::power_up::power_up;
 use agent_replies::sending::Handled;
 use agent_state::answers::ACCEPTED;
+use agent_state::limit::DOORS_LIMIT;
 use agent_state::registers::INPUTS;
 use console::blocks::least;
 use rules::Agent;
+
+// The module at power-up: MAC 1, IID 2, VER 0 and the limit of doors, 64.
+pub fn script_module() -> Agent
+    ensures { λ r. ⌜ r ≡ scriptModule ⌝ }
+{
+    power_up(1, 2, 0, DOORS_LIMIT)
+}
 
 // An empty reply buffer of the minimum length.
 pub fn no_reply() -> [u8; 545]
@@ -67,7 +76,7 @@ fn accepted(a: Agent) -> Handled
 }
 
 fn frame(a: Agent, port: u8, bytes: &[u8], n: usize, reply: &mut [u8; 545]) -> Handled
-    ensures { λ r. ⌜ (r .sent ≤ 545) × (told r (now (reply .exit)) ≡ frameCall a port (take n (now (bytes .entry))) 545) ⌝ }
+    ensures { λ r. ⌜ (r .sent ≤ 545) × (told r (now (reply .exit)) ≡ frameCall a port (take n (now (bytes .entry))) 545) × (r .sent ≡ length (frameCall a port (take n (now (bytes .entry))) 545 .line)) ⌝ }
 {
     let end = least(bytes.len(), n);
     calls::frame(a, port, &bytes[..end], reply)
@@ -75,7 +84,7 @@ fn frame(a: Agent, port: u8, bytes: &[u8], n: usize, reply: &mut [u8; 545]) -> H
 
 // Does what a line asks for, with the bytes of the line; the reply is left in the buffer.
 pub fn do_form(a: Agent, form: Form, bytes: &[u8], reply: &mut [u8; 545]) -> Handled
-    ensures { λ r. ⌜ (r .sent ≤ 545) × (told r (now (reply .exit)) ≡ done a (stepIn form (now (bytes .entry)))) ⌝ }
+    ensures { λ r. ⌜ (r .sent ≤ 545) × (told r (now (reply .exit)) ≡ done a (stepIn form (now (bytes .entry)))) × (r .sent ≡ length (done a (stepIn form (now (bytes .entry))) .line)) ⌝ }
 {
     match form {
         Form::Ticks(n) => accepted(ticks(a, n)),

@@ -1,44 +1,24 @@
--- Laws of what is printed: how long each part is, and one part after another. Assumes nothing.
-use mathlib.Core.Path.{_≡_, refl, sym, ap, _∙_}
+-- Laws of what is printed: how long each part is, and each part put. Assumes nothing.
+use mathlib.Core.Path.{_≡_, refl, sym, _∙_}
 use mathlib.Core.Bool.{Bool, true, false}
-use mathlib.Core.List.{List, [], _∷_, _++_, append-nil}
+use mathlib.Core.List.{List, [], _∷_, _++_}
 use Prim.Native.Nat.{ℕ, _+_, _≤_}
 use native.Mathlib.Omega.{arith}
 use borrow.Author.Tests.{eq-eqb, ne-eqb}
 use lib.Dec.{eqb}
-use lib.ListN.{length, take, drop, length-append}
-use lib.Seq.{length-sets, length-take-le, take-at}
+use lib.ListN.{length, take, length-append}
+use lib.Seq.{length-take-le}
 use Rattle.base.proofs.Choosing.{by-test}
-use Rattle.base.proofs.Sets.{sets-front}
 use Rattle.text.specs.Decimal.{decimalText}
-use Rattle.text.specs.Putting.{hexDigits, hexText}
+use Rattle.text.specs.Putting.{hexDigits, hexText, Wrote}
 use Rattle.text.proofs.DecimalLaws.{decimal-length}
-use Rattle.text.proofs.PuttingLaws.{Put, put-whole, wrote-both, digits-two, text-length}
+use Rattle.text.proofs.PuttingLaws.{Put, put-whole, wrote-both, wrote-room, then-put, digits-two, text-length}
 use Rattle.rules.specs.Replies.{Outcome}
 use Rattle.rules.specs.State.{running}
 use Rattle.rules.specs.declared.Agent.{Agent}
 use Rattle.script_text.specs.declared.View.{View}
 use Rattle.script_text.specs.declared.View.the-variants.{Script, Trace}
-use Rattle.script_text.specs.Printing.{space, lineEnd, badText, answerText, modeText, stateText, replyText, traceText, viewText, fieldsText, printed, Wrote}
-
--- one part put behind another
-module _ (buf : List ℕ) (at : ℕ) (s : List ℕ) (r : ℕ) (out : List ℕ) (w : Wrote buf at s r out) where
-  pub wrote-length : length out ≡ length buf
-  wrote-length = ap length (w .1) ∙ length-sets buf at s
-
-  -- the room that is left
-  pub wrote-room : (n : ℕ) → at + (length s + n) ≤ length buf → r + n ≤ length out
-  wrote-room n h = omega (arith, w .0, wrote-length, h)
-
-  pub then-put : (t : List ℕ) (r′ : ℕ) (out′ : List ℕ) → at + (length s + length t) ≤ length buf → Put out r t r′ out′ → Wrote buf at (s ++ t) r′ out′
-  then-put t r′ out′ h p = wrote-both buf at s r out t r′ out′ w (put-whole out r t (wrote-room (length t) h) r′ out′ p)
-
-  pub then-nothing : Wrote buf at (s ++ []) r out
-  then-nothing = rw append-nil w
-
--- nothing put
-pub wrote-nothing : (buf : List ℕ) (at : ℕ) → Wrote buf at [] at buf
-wrote-nothing buf at = (omega arith, refl)
+use Rattle.script_text.specs.Printing.{space, lineEnd, badText, answerText, modeText, stateText, replyText, traceText, viewText, fieldsText, printed}
 
 -- ---- how long each part is
 pub answer-length : (n answer : ℕ) → length (answerText n answer) ≤ 41
@@ -78,9 +58,6 @@ view-length Trace o h k = trace-length (o .line) (o .agent .regs) h k
 
 -- ---- the parts that are put
 module _ (buf : List ℕ) (at : ℕ) where
-  pub same-put : (s t : List ℕ) (r : ℕ) (out : List ℕ) → s ≡ t → Put buf at s r out → Put buf at t r out
-  same-put s t r out e p = rw e at p
-
   pub answer-wrote : (n x r₁ : ℕ) (out₁ : List ℕ) (r₂ : ℕ) (out₂ : List ℕ) (r : ℕ) (out : List ℕ) → at + 41 ≤ length buf
       → Put buf at (decimalText n) r₁ out₁ → Put out₁ r₁ space r₂ out₂ → Put out₂ r₂ (decimalText x) r out → Wrote buf at (answerText n x) r out
   unfolding answerText
@@ -189,7 +166,3 @@ printed-length view n b o h k =
       length-append two (viewText view o),
       length-append (two ++ viewText view o) lineEnd,
     ))
-
-pub wrote-front : (buf t : List ℕ) (r : ℕ) (out : List ℕ) → length t ≤ length buf → Wrote buf 0 t r out → take r out ≡ t
-wrote-front buf t r out h w =
-    ap (take r) (w .1 ∙ sets-front buf t h) ∙ take-at t (drop (length t) buf) r (omega (arith, w .0))

@@ -1,11 +1,9 @@
 -- What is printed for a line. Assumes nothing.
 use mathlib.Core.Bool.{Bool}
-use mathlib.Core.Path.{_≡_}
 use mathlib.Core.List.{List, [], _∷_, _++_}
-use Prim.Native.Nat.{ℕ, _+_}
+use Prim.Native.Nat.{ℕ}
 use lib.Dec.{eqb}
 use lib.ListN.{length}
-use lib.Seq.{sets}
 use Rattle.base.specs.Choice.{choose}
 use Rattle.text.specs.Decimal.{decimalText}
 use Rattle.text.specs.Putting.{hexDigits, hexText}
@@ -67,8 +65,3 @@ fieldsText view n o = ((answerText n (o .answer) ++ stateText (o .agent)) ++ vie
 
 unfoldable pub printed : View → ℕ → Bool → Outcome → List ℕ
 printed view n isBad o = choose isBad (badText n) (fieldsText view n o)
-
--- ---- the steps of the code
--- a text put whole
-abbrev pub Wrote : List ℕ → ℕ → List ℕ → ℕ → List ℕ → Type 0
-Wrote buf at text r out = (r ≡ at + length text) × (out ≡ sets buf at text)

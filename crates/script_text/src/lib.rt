@@ -2,9 +2,9 @@
 ghost use mathlib.Core.Path.{_≡_};
 ghost use Prim.Native.Nat.{_+_, _≤_};
 ghost use lib.ListN.{length, take, replicate};
-ghost use Rattle.text.specs.Putting.{putAt, placeAfter};
+ghost use Rattle.text.specs.Putting.{putAt, placeAfter, Wrote};
 ghost use Rattle.agent_replies.specs.Handling.{told};
-ghost use Rattle.script_text.specs.Printing.{headerOf, badText, answerText, modeText, stateText, replyText, traceText, viewText, fieldsText, printed, Wrote};
+ghost use Rattle.script_text.specs.Printing.{headerOf, badText, answerText, modeText, stateText, replyText, traceText, viewText, fieldsText, printed};
 use agent_replies::sending::Handled;
 use rules::Agent;
 use text::decimal::put_decimal;

@@ -1,4 +1,5 @@
--- Laws of text put at an index: what fits and what does not, and a turn of the loop over bytes. Assumes nothing.
+-- Laws of text put at an index: what fits and what does not, one text after another, and a turn of the loop over bytes. Assumes
+-- nothing.
 use mathlib.Core.Path.{_≡_, refl, sym, ap, ap₂, _∙_}
 use mathlib.Core.Bool.{Bool, true, false}
 use mathlib.Core.List.{List, [], _∷_, _++_}
@@ -7,10 +8,11 @@ use native.Mathlib.Omega.{arith}
 use native.Mathlib.Numerals.{add-one}
 use borrow.Author.Tests.{leb-true, leb-false, le-leb, lt-leb}
 use lib.Dec.{leb}
-use lib.ListN.{length, drop, getD, length-append, drop-of-length-le}
-use lib.Seq.{sets, drop-cons}
-use Rattle.base.proofs.Sets.{sets-append}
-use Rattle.text.specs.Putting.{hexDigits, hexText, putAt, placeAfter}
+use lib.ListN.{length, take, drop, getD, length-append, drop-of-length-le}
+use lib.Seq.{sets, drop-cons, length-sets, take-at}
+use Rattle.base.proofs.Choosing.{by-test}
+use Rattle.base.proofs.Sets.{sets-append, sets-front}
+use Rattle.text.specs.Putting.{hexDigits, hexText, putAt, placeAfter, Wrote}
 
 -- the room behind a place
 pub room-behind : (len at n : ℕ) → at ≤ len → leb n (len - at) ≡ leb (at + n) len
@@ -38,10 +40,7 @@ module _ (buf : List ℕ) (at : ℕ) (text : List ℕ) where
   put-not t = (rw t, rw t)
 
   -- a text that is put whole
-  abbrev pub Wrote : ℕ → List ℕ → Type 0
-  Wrote r out = (r ≡ at + length text) × (out ≡ sets buf at text)
-
-  pub put-whole : at + length text ≤ length buf → (r : ℕ) (out : List ℕ) → Put r out → Wrote r out
+  pub put-whole : at + length text ≤ length buf → (r : ℕ) (out : List ℕ) → Put r out → Wrote buf at text r out
   unfolding putAt placeAfter
   put-whole h r out p =
       let t : leb (at + length text) (length buf) ≡ true = le-leb _ _ h in
@@ -54,6 +53,38 @@ wrote-both buf at s r out t r′ out′ p q = (
   omega (arith, p .0, q .0, length-append s t),
   q .1 ∙ ap₂ (λ (x : List ℕ) (n : ℕ). sets x n t) (p .1) (p .0) ∙ sym (sets-append buf at s t),
 )
+
+-- one text after another, with the room that is left
+module _ (buf : List ℕ) (at : ℕ) (s : List ℕ) (r : ℕ) (out : List ℕ) (w : Wrote buf at s r out) where
+  pub wrote-length : length out ≡ length buf
+  wrote-length = ap length (w .1) ∙ length-sets buf at s
+
+  -- the room that is left
+  pub wrote-room : (n : ℕ) → at + (length s + n) ≤ length buf → r + n ≤ length out
+  wrote-room n h = omega (arith, w .0, wrote-length, h)
+
+  pub then-put : (t : List ℕ) (r′ : ℕ) (out′ : List ℕ) → at + (length s + length t) ≤ length buf → Put out r t r′ out′ → Wrote buf at (s ++ t) r′ out′
+  then-put t r′ out′ h p = wrote-both buf at s r out t r′ out′ w (put-whole out r t (wrote-room (length t) h) r′ out′ p)
+
+-- nothing put
+pub none-put : (buf : List ℕ) (at : ℕ) → Put buf at [] at buf
+unfolding putAt placeAfter
+none-put buf at = (
+  by-test (λ (n : ℕ). at ≡ n) (leb (at + 0) (length buf)) {x = at + 0} {y = at} (λ e. omega arith) (λ e. refl),
+  by-test (λ (l : List ℕ). buf ≡ l) (leb (at + 0) (length buf)) {x = buf} {y = buf} (λ e. refl) (λ e. refl),
+)
+
+pub wrote-nothing : (buf : List ℕ) (at : ℕ) → Wrote buf at [] at buf
+wrote-nothing buf at = (omega arith, refl)
+
+-- a text put at the front
+pub wrote-front : (buf t : List ℕ) (r : ℕ) (out : List ℕ) → length t ≤ length buf → Wrote buf 0 t r out → take r out ≡ t
+wrote-front buf t r out h w =
+    ap (take r) (w .1 ∙ sets-front buf t h) ∙ take-at t (drop (length t) buf) r (omega (arith, w .0))
+
+-- the same text, written in another way
+pub same-put : (buf : List ℕ) (at : ℕ) (s t : List ℕ) (r : ℕ) (out : List ℕ) → s ≡ t → Put buf at s r out → Put buf at t r out
+same-put buf at s t r out e p = rw e at p
 
 -- ---- bytes in hex
 pub digits-two : (b : ℕ) → length (hexDigits b) ≡ 2

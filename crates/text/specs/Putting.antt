@@ -1,4 +1,5 @@
 -- Text put at an index of a buffer: whole if it fits, else not at all. Assumes nothing.
+use mathlib.Core.Path.{_≡_}
 use mathlib.Core.List.{List, [], _∷_, _++_}
 use Prim.Native.Nat.{ℕ, _+_, _/_, _%_}
 use lib.Dec.{leb, ltb}
@@ -25,3 +26,8 @@ hexDigits b = digitOf (b / 16) ∷ digitOf (b % 16) ∷ []
 unfoldable pub hexText : List ℕ → List ℕ
 hexText [] = []
 hexText (b ∷ bs) = hexDigits b ++ hexText bs
+
+-- ---- the steps of the code
+-- a text put whole
+abbrev pub Wrote : List ℕ → ℕ → List ℕ → ℕ → List ℕ → Type 0
+Wrote buf at text r out = (r ≡ at + length text) × (out ≡ sets buf at text)

@@ -1,5 +1,6 @@
 -- `script_text::put_mode` meets its contract. Assumes nothing.
-use Rattle.script_text.proofs.PrintingLaws.{same-put, mode-run, mode-fallback}
+use Rattle.text.proofs.PuttingLaws.{same-put}
+use Rattle.script_text.proofs.PrintingLaws.{mode-run, mode-fallback}
 use borrow.Author.Needs.{needs}
 use Rattle.script_text.proofs.put_mode.Statement.{statement}
 use Rattle.script_text.proofs.put_mode.Tie as tie

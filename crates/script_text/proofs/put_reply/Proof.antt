@@ -1,7 +1,8 @@
 -- `script_text::put_reply` meets its contract. Assumes nothing.
 use mathlib.Core.Path.{sym}
 use lib.Seq.{length-take-le}
-use Rattle.script_text.proofs.PrintingLaws.{same-put, reply-none, reply-some}
+use Rattle.text.proofs.PuttingLaws.{same-put}
+use Rattle.script_text.proofs.PrintingLaws.{reply-none, reply-some}
 use borrow.Author.Needs.{needs}
 use Rattle.script_text.proofs.put_reply.Statement.{statement}
 use Rattle.script_text.proofs.put_reply.Tie as tie

@@ -2,7 +2,7 @@
 use mathlib.Core.Path.{_≡_}
 use native.Mathlib.Omega.{arith}
 use lib.ListN.{length}
-use Rattle.script_text.proofs.PrintingLaws.{wrote-nothing}
+use Rattle.text.proofs.PuttingLaws.{wrote-nothing}
 use borrow.Author.Needs.{needs}
 use Rattle.script_text.proofs.put_view.Statement.{statement}
 use Rattle.script_text.proofs.put_view.Tie as tie

@@ -6,7 +6,8 @@ use lib.ListN.{length}
 use lib.Seq.{length-take-le}
 use Rattle.agent_replies.specs.Handling.{told}
 use Rattle.script_text.specs.Printing.{printed}
-use Rattle.script_text.proofs.PrintingLaws.{same-put, printed-length, wrote-front}
+use Rattle.text.proofs.PuttingLaws.{same-put, wrote-front}
+use Rattle.script_text.proofs.PrintingLaws.{printed-length}
 use borrow.Author.Needs.{needs}
 use Rattle.script.proofs.playing.show.Statement.{statement}
 use Rattle.script.proofs.playing.show.Tie as tie
