@@ -10,6 +10,8 @@ pub mod frame;
 pub mod fuzz;
 pub mod generate;
 pub mod hex;
+pub mod load;
+pub mod million;
 pub mod module;
 pub mod refusal;
 pub mod script;

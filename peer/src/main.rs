@@ -4,18 +4,23 @@
 //! - `peer cases crc|body|frame SEED COUNT`: seeded cases
 //! - `peer script`, `peer trace`: a script on standard input, what came of it on standard output
 //! - `peer scripts SEED COUNT`: a seeded script of COUNT lines
+//! - `peer load`: a script on standard input, the line load of each cycle on standard output
+//! - `peer loads SEED COUNT`: a seeded script of COUNT lines for it
+//! - `peer ring COUNT`: the first COUNT lines of a busy ring
 //! - `peer frame`: a list on standard input (frames by their fields, bodies, lines of a script, comments); bodies, frames
 //!   and the lines of the script on standard output
 //! - `peer frames SEED COUNT`: seeded lines for it
 //! - `peer census`: a script on standard input, what it brings up and how often on standard output
 //! - `peer list-census`: the same for a list
-//! - `peer fuzz COUNT SEED PROGRAM...`: fresh scripts through `trace` and another trace program
+//! - `peer load-census`: a script on standard input, what its cycles of the line load bring up
+//! - `peer fuzz trace|load COUNT SEED PROGRAM...`: fresh scripts through `trace` or `load` and another such program
+//! - `peer million PROGRAM...`: scripts of a million lines and more through `load` and another load program
 //! - `peer strike COUNT SEED PROGRAM... -- PROGRAM...`: fresh scripts with refused frames struck, through a trace
 //!   program and a script program
 //! - `peer test`: self checks
 
 use peer::cases::{self, Program};
-use peer::{census, check, fuzz, generate, script, spelling, strike};
+use peer::{census, check, fuzz, generate, load, million, script, spelling, strike};
 use std::io::{self, BufWriter, ErrorKind, Read, Write};
 use std::process::ExitCode;
 
@@ -24,11 +29,16 @@ const USAGE: &str = "usage: peer answer crc|body|frame
        peer script
        peer trace
        peer scripts SEED COUNT
+       peer load
+       peer loads SEED COUNT
+       peer ring COUNT
        peer frame
        peer frames SEED COUNT
        peer census
        peer list-census
-       peer fuzz COUNT SEED PROGRAM...
+       peer load-census
+       peer fuzz trace|load COUNT SEED PROGRAM...
+       peer million PROGRAM...
        peer strike COUNT SEED PROGRAM... -- PROGRAM...
        peer test
 ";
@@ -41,14 +51,19 @@ fn main() -> ExitCode {
         ["cases", name, seed, count] => cases(name, seed, count),
         ["script"] => Some(play(script::Program::Script)),
         ["trace"] => Some(play(script::Program::Trace)),
-        ["scripts", seed, count] => scripts(seed, count),
+        ["scripts", seed, count] => made(generate::script, seed, count),
+        ["load"] => Some(line_load()),
+        ["loads", seed, count] => made(generate::loads, seed, count),
+        ["ring", count] => ring(count),
         ["frame"] => Some(frame_lines()),
-        ["frames", seed, count] => frames(seed, count),
+        ["frames", seed, count] => made(generate::frame_lines, seed, count),
         ["census"] => Some(count(|script| census::of(script).to_string())),
         ["list-census"] => Some(count(|list| census::of_list(list).to_string())),
-        ["fuzz", count, seed, ref command @ ..] if !command.is_empty() => {
-            fuzzed(count, seed, command)
+        ["load-census"] => Some(count(|script| census::of_load(script).to_string())),
+        ["fuzz", name, count, seed, ref command @ ..] if !command.is_empty() => {
+            fuzzed(name, count, seed, command)
         }
+        ["million", ref command @ ..] if !command.is_empty() => Some(a_million(command)),
         ["strike", count, seed, ref commands @ ..] => struck(count, seed, commands),
         ["test"] => Some(test()),
         _ => None,
@@ -88,15 +103,13 @@ fn cases(name: &str, seed: &str, count: &str) -> Option<io::Result<ExitCode>> {
 }
 
 /// `None` for words that are not two numbers.
-fn scripts(seed: &str, count: &str) -> Option<io::Result<ExitCode>> {
+fn made<T: AsRef<[u8]>>(
+    make: fn(u64, usize) -> T,
+    seed: &str,
+    count: &str,
+) -> Option<io::Result<ExitCode>> {
     let (seed, count) = (seed.parse().ok()?, count.parse().ok()?);
-    Some(print(generate::script(seed, count)))
-}
-
-/// `None` for words that are not two numbers.
-fn frames(seed: &str, count: &str) -> Option<io::Result<ExitCode>> {
-    let (seed, count) = (seed.parse().ok()?, count.parse().ok()?);
-    Some(print(generate::frame_lines(seed, count)))
+    Some(print(make(seed, count)))
 }
 
 fn frame_lines() -> io::Result<ExitCode> {
@@ -111,22 +124,45 @@ fn play(program: script::Program) -> io::Result<ExitCode> {
     Ok(ExitCode::SUCCESS)
 }
 
+fn line_load() -> io::Result<ExitCode> {
+    load::run(io::stdin().lock(), BufWriter::new(io::stdout().lock()))?;
+    Ok(ExitCode::SUCCESS)
+}
+
+/// `None` for a word that is not a number.
+fn ring(count: &str) -> Option<io::Result<ExitCode>> {
+    Some(print(generate::ring(count.parse().ok()?)))
+}
+
 fn count(census: fn(&[u8]) -> String) -> io::Result<ExitCode> {
     let mut input = Vec::new();
     io::stdin().read_to_end(&mut input)?;
     print(census(&input))
 }
 
-/// `None` for words that do not begin with two numbers.
-fn fuzzed(count: &str, seed: &str, command: &[&str]) -> Option<io::Result<ExitCode>> {
+/// `None` for words that do not begin with a program and two numbers.
+fn fuzzed(name: &str, count: &str, seed: &str, command: &[&str]) -> Option<io::Result<ExitCode>> {
+    let subject = match name {
+        "trace" => fuzz::TRACE,
+        "load" => fuzz::LOAD,
+        _ => return None,
+    };
     let (count, seed) = (count.parse().ok()?, seed.parse().ok()?);
-    Some(fuzz::run(count, seed, command).and_then(|report| {
-        print(report.to_string())?;
-        Ok(match report.difference {
-            None => ExitCode::SUCCESS,
-            Some(_) => ExitCode::FAILURE,
-        })
-    }))
+    Some(
+        fuzz::run(&subject, count, seed, command).and_then(|report| {
+            print(report.to_string())?;
+            Ok(match report.difference {
+                None => ExitCode::SUCCESS,
+                Some(_) => ExitCode::FAILURE,
+            })
+        }),
+    )
+}
+
+fn a_million(command: &[&str]) -> io::Result<ExitCode> {
+    let report = million::run(command)?;
+    print(report.to_string())?;
+    Ok(verdict(report.right()))
 }
 
 /// `None` for words that do not begin with two numbers, or are not two commands then.
@@ -139,10 +175,7 @@ fn struck(count: &str, seed: &str, commands: &[&str]) -> Option<io::Result<ExitC
     }
     Some(strike::run(count, seed, trace, script).and_then(|report| {
         print(report.to_string())?;
-        Ok(match report.right() {
-            true => ExitCode::SUCCESS,
-            false => ExitCode::FAILURE,
-        })
+        Ok(verdict(report.right()))
     }))
 }
 
@@ -152,10 +185,14 @@ fn test() -> io::Result<ExitCode> {
         "{} passed, {} failed\n",
         tally.passed, tally.failed
     ))?;
-    Ok(match tally.failed {
-        0 => ExitCode::SUCCESS,
-        _ => ExitCode::FAILURE,
-    })
+    Ok(verdict(tally.failed == 0))
+}
+
+fn verdict(right: bool) -> ExitCode {
+    match right {
+        true => ExitCode::SUCCESS,
+        false => ExitCode::FAILURE,
+    }
 }
 
 fn print(text: impl AsRef<[u8]>) -> io::Result<ExitCode> {

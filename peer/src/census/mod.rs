@@ -1,10 +1,13 @@
 //! What a script brings up, and how often: answers, the ways into RUN and out of it, and more.
-//! For lists of the frame program, `list` does the same.
+//! For lists of the frame program, `list` does the same, and `load` for the cycles of the line load.
 
 mod bad;
 mod bodies;
 mod grounds;
 mod list;
+mod load;
+mod open;
+mod sent;
 mod skips;
 mod ticks;
 mod windows;
@@ -12,6 +15,8 @@ mod writes;
 
 pub use grounds::CHANGED;
 pub use list::{of_list, ListCensus};
+pub use load::{of_load, LoadCensus};
+pub use sent::events as sent;
 
 use crate::body;
 use crate::frame::{self, com, Frame};

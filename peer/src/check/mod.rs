@@ -1,7 +1,7 @@
 //! Self checks: stored vectors, published and proved values, round trips of every kind, the
 //! cases on the bench, what the host may do wrong, the limit of requests, the numbers skipped, the tick
-//! call, the window of syncs, the ground of fallback, the traps, the script and the frame program, what the
-//! terminals show and what striking refused frames leaves.
+//! call, the window of syncs, the ground of fallback, the traps, the script, the frame and the load program, what
+//! the terminals show and what striking refused frames leaves.
 
 mod bench;
 mod ground;
@@ -9,6 +9,11 @@ mod history;
 mod host;
 mod limit;
 mod lists;
+mod load;
+mod load_edges;
+mod load_wrong;
+mod loading;
+mod million;
 mod module;
 mod printed;
 mod programs;
@@ -71,6 +76,10 @@ pub fn run() -> Tally {
     script::run(&mut tally);
     spelling::run(&mut tally);
     lists::run(&mut tally);
+    load::run(&mut tally);
+    load_edges::run(&mut tally);
+    load_wrong::run(&mut tally);
+    million::run(&mut tally);
     terminals::run(&mut tally);
     printed::run(&mut tally);
     struck::run(&mut tally);

@@ -1,4 +1,4 @@
-//! The other trace program: a command that reads a script and prints its trace.
+//! The other program: a command that reads a script and prints what came of it.
 
 use std::io::{self, ErrorKind, Write};
 use std::process::{Command, Stdio};
@@ -17,7 +17,7 @@ impl Other {
     }
 
     /// What it printed; if the program failed, that is said after its output.
-    pub fn trace(&self, script: &[u8]) -> io::Result<Vec<u8>> {
+    pub fn print(&self, script: &[u8]) -> io::Result<Vec<u8>> {
         let mut child = Command::new(&self.words[0])
             .args(&self.words[1..])
             .stdin(Stdio::piped())

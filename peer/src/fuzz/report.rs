@@ -1,6 +1,6 @@
 //! What a run of fresh scripts came to, in words.
 
-use super::{Difference, Report};
+use super::{Difference, Ending, Report};
 use std::fmt;
 
 impl fmt::Display for Report {
@@ -14,8 +14,8 @@ impl fmt::Display for Report {
         };
         let (scripts, lines) = (self.scripts, self.lines);
         writeln!(output, "{scripts} scripts, {lines} lines: {verdict}")?;
-        for (answer, count) in &self.answers {
-            writeln!(output, "answer {answer}: {count}")?;
+        for (what, count) in &self.counts {
+            writeln!(output, "{what}: {count}")?;
         }
         Ok(())
     }
@@ -27,6 +27,9 @@ impl fmt::Display for Difference {
         writeln!(output, "seed {seed}: {before} lines, shortened to {now}:")?;
         for line in &self.script {
             writeln!(output, "{}", String::from_utf8_lossy(line))?;
+        }
+        if self.ending == Ending::NoLf {
+            writeln!(output, "the last line without LF")?;
         }
         writeln!(output, "this program:")?;
         write!(output, "{}", String::from_utf8_lossy(&self.own))?;

@@ -1,5 +1,5 @@
 //! Seeded cases for the case programs (a fixed list of what must come up, then others), lines for
-//! the frame program, and scripts.
+//! the frame program, scripts, and a ring of any length.
 
 mod bad;
 mod body_laying;
@@ -15,12 +15,14 @@ mod frame_reading;
 mod frame_writing;
 mod line;
 pub mod random;
+mod ring;
 pub mod sample;
 mod script;
 pub mod speech;
 
 pub use frame_lines::frame_lines;
-pub use script::{script, script_as};
+pub use ring::{ring, Ring};
+pub use script::{loads, script, script_as};
 
 use crate::cases::Program;
 use random::Random;

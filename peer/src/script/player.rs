@@ -4,6 +4,7 @@ use super::line::{parse, Line};
 use crate::module::{Agent, Fixed, Mode, REPLY_ROOM};
 use crate::refusal::Refusal;
 
+#[derive(Clone)]
 pub struct Player {
     pub agent: Agent,
     buffer: [u8; REPLY_ROOM],

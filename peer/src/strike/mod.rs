@@ -38,8 +38,8 @@ const PLAIN_ONE_IN: usize = 4;
 pub fn run(count: usize, seed: u64, trace: &[&str], script: &[&str]) -> io::Result<Report> {
     let (trace, script) = (Other::new(trace), Other::new(script));
     let programs = Programs {
-        trace: Printer::new(|text| trace.trace(text)),
-        script: Printer::new(|text| script.trace(text)),
+        trace: Printer::new(|text| trace.print(text)),
+        script: Printer::new(|text| script.print(text)),
     };
     let mut report = Report::default();
     for seed in seed..seed + count as u64 {

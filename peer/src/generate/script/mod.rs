@@ -5,6 +5,7 @@ mod faults;
 mod floods;
 mod grounds;
 mod lines;
+mod load;
 mod manners;
 mod names;
 mod notes;
@@ -19,6 +20,8 @@ mod stage;
 mod takeover;
 mod turns;
 mod windows;
+
+pub use load::loads;
 
 use crate::module::Fixed;
 use stage::Stage;
@@ -96,31 +99,45 @@ pub fn script(seed: u64, count: usize) -> Vec<u8> {
 pub fn script_as(fixed: Fixed, seed: u64, count: usize) -> Vec<u8> {
     let mut stage = Stage::new(fixed, seed);
     opening::play(&mut stage);
-    let mut deck = Vec::new();
-    let mut once = match count >= LONG {
-        true => ONCE.to_vec(),
-        false => Vec::new(),
-    };
-    while stage.length() < count {
-        let done = 100 * stage.length() / count;
-        // All eight concentrators are there when a fifth of the script is done.
-        names::record_up_to(&mut stage, 1 + done * 8 / 20);
-        if let Some(&(start, scene)) = once.first() {
-            if done >= start {
-                once.remove(0);
-                scene(&mut stage);
-            }
-        }
-        draw(&mut deck, &mut stage)(&mut stage);
-        settings::tidy(&mut stage);
-    }
+    play_on(&mut stage, count, &[&SCENES, &LINE_SCENES], once(count));
     stage.text(count)
 }
 
+/// The long scenes of a script with so many lines.
+fn once(count: usize) -> Vec<(usize, Scene)> {
+    match count >= LONG {
+        true => ONCE.to_vec(),
+        false => Vec::new(),
+    }
+}
+
+/// Scenes from shuffled decks until there are `count` lines, and the long ones when their time has come.
+fn play_on(
+    stage: &mut Stage,
+    count: usize,
+    scenes: &[&[(Scene, usize)]],
+    mut once: Vec<(usize, Scene)>,
+) {
+    let mut deck = Vec::new();
+    while stage.length() < count {
+        let done = 100 * stage.length() / count;
+        // All eight concentrators are there when a fifth of the script is done.
+        names::record_up_to(stage, 1 + done * 8 / 20);
+        if let Some(&(start, scene)) = once.first() {
+            if done >= start {
+                once.remove(0);
+                scene(stage);
+            }
+        }
+        draw(&mut deck, stage, scenes)(stage);
+        settings::tidy(stage);
+    }
+}
+
 /// The next scene of a shuffled deck, a new one when it is used up.
-fn draw(deck: &mut Vec<Scene>, stage: &mut Stage) -> Scene {
+fn draw(deck: &mut Vec<Scene>, stage: &mut Stage, scenes: &[&[(Scene, usize)]]) -> Scene {
     if deck.is_empty() {
-        for (scene, times) in SCENES.into_iter().chain(LINE_SCENES) {
+        for &(scene, times) in scenes.iter().copied().flatten() {
             deck.extend(vec![scene; times]);
         }
         stage.random.shuffle(deck);

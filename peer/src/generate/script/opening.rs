@@ -79,7 +79,7 @@ fn refused_assignments(stage: &mut Stage) {
     }
 }
 
-fn first_sid(stage: &mut Stage) {
+pub fn first_sid(stage: &mut Stage) {
     let first = stage.random.pick(&CONCENTRATORS);
     let assignment = SidAssignment {
         sid: own_sid(&mut stage.random),

@@ -54,6 +54,15 @@ impl Stage {
         self.lines.len()
     }
 
+    /// Only the first lines, and the module as they leave it.
+    pub fn cut(&mut self, count: usize) {
+        self.player = Player::power_up_as(self.agent().fixed);
+        let lines = std::mem::take(&mut self.lines);
+        for line in lines.into_iter().take(count) {
+            self.line(line);
+        }
+    }
+
     /// The first lines as one text. Now and then the last one has no LF.
     pub fn text(mut self, count: usize) -> Vec<u8> {
         self.lines.truncate(count);

@@ -1,0 +1,5 @@
+pub mod Readings
+pub mod Kept
+pub mod Whole
+pub mod CyclesLaws
+pub mod RunningLaws
