@@ -1,19 +1,21 @@
--- A number of 1 or more that is put down in decimal is read back as the same number. Assumes nothing.
-use mathlib.Core.Path.{_≡_, refl, ap, _∙_}
+-- A number of 1 or more that is put down in decimal is read back as the same number, and no other text is. Assumes nothing.
+use mathlib.Core.Path.{_≡_, refl, sym, ap, ap₂, _∙_}
 use mathlib.Core.Bool.{Bool, true, false}
-use mathlib.Core.List.{List, [], _∷_, _++_}
-use mathlib.Core.Option.{some}
-use Prim.Native.Nat.{ℕ, zero, suc, _+_, _*_, _/_, _%_, _^_, _≤_, _<_}
+use mathlib.Core.List.{List, [], _∷_, _++_, append-assoc, append-nil}
+use mathlib.Core.Option.{Option, none, some}
+use Prim.Native.Nat.{ℕ, zero, suc, _+_, _-_, _*_, _/_, _%_, _^_, _≤_, _<_}
 use native.Mathlib.Omega.{arith}
 use native.Mathlib.Nat.{pow-suc}
-use borrow.Author.Tests.{ne-eqb, le-ltb}
-use lib.Dec.{ltb}
-use lib.ListN.{getD}
+use borrow.Author.Tests.{ne-eqb, eqb-false, le-ltb, ltb-false, leb-true}
+use lib.Dec.{eqb, leb, ltb}
+use lib.ListN.{length, getD, length-append}
+use Rattle.base.specs.Choice.{choose, within}
+use Rattle.base.proofs.Choosing.{by-test, and-left}
 use Rattle.text.specs.Hex.{digitValue}
 use Rattle.text.specs.Decimal.{digitsFrom, upTo, decimalOf, digits, decimalText}
-use Rattle.text.specs.declared.decimal.Decimal.the-variants.{Number}
+use Rattle.text.specs.declared.decimal.Decimal.the-variants.{Number, NotNumber}
 use Rattle.text.proofs.HexLaws.{agree}
-use Rattle.text.proofs.DecimalLaws.{digits-none, text-digits}
+use Rattle.text.proofs.DecimalLaws.{digits-none, text-zero, text-digits}
 
 digit-back : (d : ℕ) → d < 10 → digitValue (d + 0x30) ≡ d
 unfolding digitValue
@@ -42,6 +44,10 @@ digits-more k n p = rw (ne-eqb n 0 (λ e. omega arith))
 none-said : digitsFrom 0 [] ≡ some 0
 unfolding digitsFrom
 none-said = refl
+
+digits-zero : (n : ℕ) → digits zero n ≡ []
+unfolding digits
+digits-zero n = refl
 
 -- what holds of 0 and of every n above it
 by-zero : (P : ℕ → Type 0) (n : ℕ) → P 0 → (0 < n → P n) → P n
@@ -80,3 +86,108 @@ pub number-back : (limit n : ℕ) → 0 < n → n ≤ limit → n < 10 ^ 20 → 
 number-back limit n p l h =
     rw (← text-digits n (λ e. omega arith))
     (no-zero limit (digits 20 n) (first-digit 20 n p h) ∙ ap (upTo limit) (digits-back 20 n h) ∙ rw (le-ltb limit n l))
+
+-- how many digits a number has at most
+digits-few : (j k n : ℕ) → n < 10 ^ j → length (digits k n) ≤ j
+digits-few j zero n h = omega (arith, ap length (digits-zero n))
+digits-few zero (suc k) n h = let q : n ≡ 0 = omega arith in omega (arith, ap length (digits-none (suc k)), ap (λ (m : ℕ). length (digits (suc k) m)) q)
+digits-few (suc j) (suc k) n h =
+    let i = digits-few j k (n / 10) (less j n h) in
+    by-zero (λ m. m ≡ n → length (digits (suc k) m) ≤ suc j) n (λ q. omega (arith, ap length (digits-none (suc k))))
+    (λ p q. omega (arith, ap length (digits-more k n p), length-append (digits k (n / 10)) ((n % 10 + 0x30) ∷ []), i)) refl
+
+pub text-few : (j n : ℕ) → 0 < j → n < 10 ^ j → length (decimalText n) ≤ j
+text-few j n h k =
+    by-zero (λ m. m ≡ n → length (decimalText m) ≤ j) n (λ q. omega (arith, ap length (text-zero 0 refl)))
+    (λ p q. omega (arith, ap length (text-digits n (λ e. omega arith)), digits-few j 20 n k)) refl
+
+-- ---- and no other text is read as that number
+at-least : (c lo hi : ℕ) → within lo hi c ≡ true → lo ≤ c
+at-least c lo hi e = leb-true lo c (and-left (leb lo c) (leb c hi) e)
+
+char-back : (c : ℕ) → digitValue c ≤ 9 → c ≡ digitValue c + 0x30
+unfolding digitValue
+char-back c =
+    by-test (λ (v : ℕ). v ≤ 9 → c ≡ v + 0x30) (within 0x30 0x39 c) (λ e h. omega (arith, at-least c 0x30 0x39 e))
+    (λ e. by-test (λ (v : ℕ). v ≤ 9 → c ≡ v + 0x30) (within 0x41 0x46 c) (λ f h. absurd (omega (arith, at-least c 0x41 0x46 f)))
+    (λ f. by-test (λ (v : ℕ). v ≤ 9 → c ≡ v + 0x30) (within 0x61 0x66 c) (λ g h. absurd (omega (arith, at-least c 0x61 0x66 g))) (λ g h. absurd (omega arith))))
+
+-- a character more
+one-read : (m n c : ℕ) (cs : List ℕ) → digitsFrom m (c ∷ cs) ≡ some n → (digitValue c ≤ 9) × (digitsFrom (m * 10 + digitValue c) cs ≡ some n)
+unfolding digitsFrom
+one-read m n c cs e = by (ltb 9 (digitValue c)) refl
+  where
+    by : (t : Bool) → ltb 9 (digitValue c) ≡ t → (digitValue c ≤ 9) × (digitsFrom (m * 10 + digitValue c) cs ≡ some n)
+    by true t = absurd (let z : _≡_ {A = ℕ} 0 1 = cc in omega arith)
+    by false t = (ltb-false _ _ t, rw t at e)
+
+one-put : (j m d : ℕ) → d ≤ 9 → 0 < m * 10 + d → digits (suc j) (m * 10 + d) ≡ digits j m ++ ((d + 0x30) ∷ [])
+one-put j m d h p =
+    let q : (m * 10 + d) / 10 ≡ m = omega arith in
+    let r : (m * 10 + d) % 10 ≡ d = omega arith in
+    digits-more j (m * 10 + d) p ∙ ap₂ (λ (x y : ℕ). digits j x ++ ((y + 0x30) ∷ [])) q r
+
+-- the digits behind those of m
+read-put : (cs : List ℕ) (j m n : ℕ) → 0 < m → digitsFrom m cs ≡ some n → digits (length cs + j) n ≡ digits j m ++ cs
+unfolding digitsFrom
+read-put [] j m n p e =
+    let q : m ≡ n = cc in
+    let z : 0 + j ≡ j = omega arith in
+    ap₂ digits z (sym q) ∙ sym (append-nil (digits j m))
+read-put (c ∷ cs) j m n p e =
+    let k = one-read m n c cs e in
+    let d : ℕ = digitValue c in
+    let z : length (c ∷ cs) + j ≡ length cs + suc j = omega arith in
+    ap (λ (i : ℕ). digits i n) z
+    ∙ read-put cs (suc j) (m * 10 + d) n (omega arith) (k .1)
+    ∙ ap (λ (t : List ℕ). t ++ cs) (one-put j m d (k .0) (omega arith))
+    ∙ append-assoc (digits j m) ((d + 0x30) ∷ []) cs
+    ∙ ap (λ (x : ℕ). digits j m ++ (x ∷ cs)) (sym (char-back c (k .0)))
+
+all-put : (j n c : ℕ) (cs : List ℕ) → (c ≡ 0x30 → ⊥) → length cs + suc j ≡ 20 → digitsFrom 0 (c ∷ cs) ≡ some n → digits 20 n ≡ c ∷ cs
+all-put j n c cs h l e =
+    let k = one-read 0 n c cs e in
+    let f = char-back c (k .0) in
+    let p : 0 < 0 * 10 + digitValue c = positive f in
+    ap (λ (i : ℕ). digits i n) (sym l)
+    ∙ read-put cs (suc j) (0 * 10 + digitValue c) n p (k .1)
+    ∙ ap (λ (t : List ℕ). t ++ cs) (one-put j 0 (digitValue c) (k .0) p)
+    ∙ ap₂ (λ (t : List ℕ) (x : ℕ). (t ++ (x ∷ [])) ++ cs) (digits-none j) (sym f)
+  where
+    positive : c ≡ digitValue c + 0x30 → 0 < 0 * 10 + digitValue c
+    positive f = by-zero (λ (v : ℕ). c ≡ v + 0x30 → 0 < 0 * 10 + v) (digitValue c) (λ q. absurd (h (q ∙ refl))) (λ p q. omega arith) f
+
+up-to-number : (limit n : ℕ) (o : Option ℕ) → upTo limit o ≡ Number n → (o ≡ some n) × (n ≤ limit)
+up-to-number limit n none e = absurd (let z : _≡_ {A = ℕ} 0 1 = cc in omega arith)
+up-to-number limit n (some m) e = by (ltb limit m) refl e
+  where
+    by : (t : Bool) → ltb limit m ≡ t → choose t NotNumber (Number m) ≡ Number n → (some m ≡ some n) × (n ≤ limit)
+    by true t e = absurd (let z : _≡_ {A = ℕ} 0 1 = cc in omega arith)
+    by false t e =
+        let q : m ≡ n = cc in
+        (ap some q, omega (arith, ltb-false limit m t))
+
+-- what is read has digits, the first of which is not 0
+pub read-number : (limit n : ℕ) (cs : List ℕ) → decimalOf limit cs ≡ Number n → (getD cs 0 0x30 ≡ 0x30 → ⊥) × (digitsFrom 0 cs ≡ some n) × (n ≤ limit)
+unfolding decimalOf
+read-number limit n [] e = absurd (let z : _≡_ {A = ℕ} 0 1 = cc in omega arith)
+read-number limit n (c ∷ cs) e = by (eqb c 0x30) refl
+  where
+    by : (t : Bool) → eqb c 0x30 ≡ t → (c ≡ 0x30 → ⊥) × (digitsFrom 0 (c ∷ cs) ≡ some n) × (n ≤ limit)
+    by true t = let f : NotNumber ≡ Number n = rw t at e in absurd (let z : _≡_ {A = ℕ} 0 1 = cc in omega arith)
+    by false t =
+        let f : upTo limit (digitsFrom 0 (c ∷ cs)) ≡ Number n = rw t at e in
+        let k = up-to-number limit n (digitsFrom 0 (c ∷ cs)) f in
+        (eqb-false c 0x30 t, k .0, k .1)
+
+some-digits : (n c : ℕ) (cs : List ℕ) → digits 20 n ≡ c ∷ cs → n ≡ 0 → ⊥
+some-digits n c cs d q =
+    let f : digits 20 0 ≡ c ∷ cs = rw q at d in
+    omega (arith, ap length (sym (digits-none 20) ∙ f))
+
+pub number-only : (limit n : ℕ) (cs : List ℕ) → length cs ≤ 20 → decimalOf limit cs ≡ Number n → cs ≡ decimalText n
+number-only limit n [] l e = absurd (read-number limit n [] e .0 refl)
+number-only limit n (c ∷ cs) l e =
+    let k = read-number limit n (c ∷ cs) e in
+    let d = all-put (19 - length cs) n c cs (k .0) (omega arith) (k .1) in
+    sym d ∙ text-digits n (some-digits n c cs d)
