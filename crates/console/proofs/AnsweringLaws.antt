@@ -7,6 +7,7 @@ use Prim.Native.Nat.{ℕ, _+_, _≤_}
 use native.Mathlib.Omega.{arith}
 use lib.ListN.{length, take, drop, length-append}
 use lib.Seq.{sets, sets-eq, take-at, length-take-le}
+use Rattle.base.proofs.Choosing.{never, or-first, or-second}
 use Rattle.text.specs.Putting.{putAt, placeAfter}
 use Rattle.text.proofs.PuttingLaws.{put-whole}
 use Rattle.console.specs.Lines.{linesOf, Free, joined}
@@ -18,6 +19,22 @@ use Rattle.console.specs.Answering.{Stands, Answers, Spoken, Whole, Quie
 use Rattle.console.specs.declared.lines.Cursor.{Cursor}
 use Rattle.console.proofs.LinesLaws.{joined-append, lines-line, lines-last, lines-none}
 
+-- ---- what reading came to
+-- there is a whole line, or the input has ended; or the output is closed
+pub told-whole : (r : Cursor) → r .whole ≡ true → told r ≡ true
+told-whole r w = or-first (r .whole) (r .ended) w
+
+pub told-ended : (r : Cursor) → r .ended ≡ true → told r ≡ true
+told-ended r e = or-second (r .whole) (r .ended) e
+
+pub told-neither : (r : Cursor) → r .whole ≡ false → r .ended ≡ false → told r ≡ true → ⊥
+told-neither r w e t = never (sym (ap₂ _||_ w e) ∙ t)
+
+-- the room for a text, once it is told
+pub room-made : (buffer out : List ℕ) (c : Cursor) (buffer′ line′ : List ℕ) (r : Cursor) → Next buffer out c buffer′ line′ r → told r ≡ true → r .to + 2048 ≤ length out
+room-made buffer out c buffer′ line′ r n t = n .gives t .1 .room
+
+-- ---- lines, one after another
 module _ {S : Type 0} (P : Program S) where
   next-append : (s : S) (ls ms : List (List ℕ)) → nextAll P s (ls ++ ms) ≡ nextAll P (nextAll P s ls) ms
   next-append s [] ms = refl
@@ -177,16 +194,6 @@ module _ {S : Type 0} (P : Program S) where
           text = text-so ∙ ap (λ (ls : List (List ℕ)). P .first ++ saysAll P (P .start) ls) (sym n);
           state = x .state ∙ ap (nextAll P (P .start)) (sym n);
         }
-
-  told-whole : (r : Cursor) → r .whole ≡ true → told r ≡ true
-  told-whole r w = ap (λ (b : Bool). b || r .ended) w
-
-  told-ended : (r : Cursor) → r .ended ≡ true → told r ≡ true
-  told-ended r e = or-true (r .whole) (r .ended) e
-    where
-      or-true : (a b : Bool) → b ≡ true → (a || b) ≡ true
-      or-true true b h = refl
-      or-true false b h = h
 
   -- a whole line was handed out, and answered
   pub stands-more : (s : S) (buffer out : List ℕ) (c : Cursor) (buffer′ line′ : List ℕ) (r : Cursor) (s′ : S) (out′ : List ℕ) (to′ : ℕ)

@@ -1,7 +1,7 @@
 -- Laws of a line's answer, as the program puts it together and as the definition has it; and of the text at the end.
 -- Assumes nothing.
 use mathlib.Core.Path.{_≡_, refl, sym, ap, ap₂, _∙_}
-use mathlib.Core.Bool.{Bool, true, false, _||_}
+use mathlib.Core.Bool.{Bool, true, false}
 use mathlib.Core.List.{List, []}
 use Prim.Native.Nat.{ℕ, _-_, _≤_, _<_}
 use native.Mathlib.Omega.{arith}
@@ -16,7 +16,7 @@ use Rattle.console.specs.Reading.{Holds, Next}
 use Rattle.console.specs.Answering.{Stands, Answers, Whole}
 use Rattle.console.specs.Cursors.{answered as moved}
 use Rattle.console.specs.declared.lines.Cursor.{Cursor}
-use Rattle.console.proofs.AnsweringLaws.{spoken, whole-more}
+use Rattle.console.proofs.AnsweringLaws.{told-ended, room-made, spoken, whole-more}
 use Rattle.console.proofs.HoldsLaws.{holds-short, holds-long}
 use Rattle.frame_words.specs.Texts.{room, noText, put, textIn}
 use Rattle.frame_words.specs.declared.texts.Text.{Text}
@@ -71,9 +71,9 @@ pub end-put : (n : ℕ) (buffer out : List ℕ) (c : Cursor) (buffer′ line′ 
     → (length (textIn t) ≤ room) × (to′ ≡ placeAfter (length out) (r .to) (textIn t)) × (out′ ≡ putAt out (r .to) (textIn t))
     → Whole answering buffer′ out′ (moved r to′)
 end-put n buffer out c buffer′ line′ r t out′ to′ x g w e q a =
-    let h = g .gives (ap₂ _||_ w e) .1 in
+    let h = room-made buffer out c buffer′ line′ r g (told-ended r e) in
     let m : length (textIn (endText n)) ≤ room = rw q at (a .0) in
-    whole-more answering n buffer′ out r out′ to′ (spoken answering n buffer out c buffer′ line′ r x g w e) (omega (arith, h .room, m)) (rw q at (a .1)) (rw q at (a .2))
+    whole-more answering n buffer′ out r out′ to′ (spoken answering n buffer out c buffer′ line′ r x g w e) (omega (arith, h, m)) (rw q at (a .1)) (rw q at (a .2))
 
 -- an input that has not ended
 pub not-both : {A : Type 0} (b : Bool) → b ≡ true → b ≡ false → A

@@ -1,8 +1,8 @@
 -- Laws of the loop: a line is played as the definition has it; at the end of the input, and after the millionth line, the text is the
 -- line load. Assumes nothing.
-use mathlib.Core.Bool.{Bool, true, false, _||_}
+use mathlib.Core.Bool.{true, false}
 use mathlib.Core.List.{List, _++_, append-nil}
-use mathlib.Core.Path.{_≡_, sym, ap, ap₂, _∙_}
+use mathlib.Core.Path.{_≡_, sym, ap, _∙_}
 use Prim.Native.Nat.{ℕ, _+_, _-_, _≤_, _<_}
 use native.Mathlib.Omega.{arith}
 use borrow.Author.Tests.{lt-leb}
@@ -15,7 +15,7 @@ use Rattle.console.specs.Reading.{block, Next}
 use Rattle.console.specs.Answering.{Stands, Answers}
 use Rattle.console.specs.Cursors.{answered}
 use Rattle.console.specs.declared.lines.Cursor.{Cursor}
-use Rattle.console.proofs.AnsweringLaws.{spoken, whole-more, stopped}
+use Rattle.console.proofs.AnsweringLaws.{told-ended, room-made, spoken, whole-more, stopped}
 use Rattle.script_lines.specs.Forms.{Step, lineOf, lineIn}
 use Rattle.script_lines.proofs.LineKept.{line-kept}
 use Rattle.load_text.specs.Printing.{openText}
@@ -38,10 +38,6 @@ module _ (p : Loading) (line : List ℕ) (len : ℕ) (out : List ℕ) (to : ℕ)
   pub room-left : to + 2048 ≤ length out → to′ + 64 ≤ length out
   room-left r = omega (arith, a .0, put-whole out to (shown p (lineIn line len)) (omega (arith, a .0)) to′ out′ (a .2, a .3) .0)
 
--- the room for a line's text
-pub room-made : (buffer out : List ℕ) (c : Cursor) (buffer′ line′ : List ℕ) (r : Cursor) → Next buffer out c buffer′ line′ r → r .whole ≡ true → r .to + 2048 ≤ length out
-room-made buffer out c buffer′ line′ r n w = n .gives (ap (λ (b : Bool). b || r .ended) w) .1 .room
-
 -- up to the millionth line there is one fewer to come
 pub fewer-left : (p : Loading) (s : Step) (p′ : Loading) → p .lines < mostLines → p′ ≡ after p s → mostLines - p′ .lines < mostLines - p .lines
 unfolding after
@@ -55,8 +51,8 @@ pub end-put : (p : Loading) (buffer out : List ℕ) (c : Cursor) (buffer′ line
     → (length (openText (p .cycle)) ≤ 64) × (to′ ≡ placeAfter (length out) (r .to) (openText (p .cycle))) × (out′ ≡ putAt out (r .to) (openText (p .cycle)))
     → Loads buffer′ out′ (answered r to′)
 end-put p buffer out c buffer′ line′ r out′ to′ x g w e a =
-    let h = g .gives (ap₂ _||_ w e) .1 in
-    let y = whole-more loading p buffer′ out r out′ to′ (spoken loading p buffer out c buffer′ line′ r x g w e) (omega (arith, h .room, a .0)) (a .1) (a .2) in
+    let m = room-made buffer out c buffer′ line′ r g (told-ended r e) in
+    let y = whole-more loading p buffer′ out r out′ to′ (spoken loading p buffer out c buffer′ line′ r x g w e) (omega (arith, a .0)) (a .1) (a .2) in
     record {
       before = y .before;
       handed = y .handed;
@@ -77,7 +73,3 @@ stop-put p buffer out c out′ to′ x h r a = record {
       stopped loading p (quiet p h) buffer out c x xs e out′ to′ (omega (arith, a .0)) (a .1) (a .2)
       ∙ input-load (joined (x .before) ++ (block c buffer ++ xs));
 }
-
--- a closed output
-pub told-neither : (r : Cursor) → r .whole ≡ false → r .ended ≡ false → (r .whole || r .ended) ≡ true → ⊥
-told-neither r w e t = let z : _≡_ {A = ℕ} 0 1 = cc in omega arith

@@ -9,8 +9,10 @@ use lib.Dec.{eqb}
 use lib.ListN.{length, take, length-append}
 use lib.Seq.{length-take-le}
 use Rattle.base.proofs.Choosing.{by-test}
+use Rattle.text.specs.BadLines.{badText}
 use Rattle.text.specs.Decimal.{decimalText}
 use Rattle.text.specs.Putting.{hexDigits, hexText, Wrote}
+use Rattle.text.proofs.BadLineLaws.{bad-length}
 use Rattle.text.proofs.DecimalLaws.{decimal-length}
 use Rattle.text.proofs.PuttingLaws.{Put, put-whole, wrote-both, wrote-room, then-put, digits-two, text-length}
 use Rattle.rules.specs.Replies.{Outcome}
@@ -18,7 +20,7 @@ use Rattle.rules.specs.State.{running}
 use Rattle.rules.specs.declared.Agent.{Agent}
 use Rattle.script_text.specs.declared.View.{View}
 use Rattle.script_text.specs.declared.View.the-variants.{Script, Trace}
-use Rattle.script_text.specs.Printing.{space, lineEnd, badText, answerText, modeText, stateText, replyText, traceText, viewText, fieldsText, printed}
+use Rattle.script_text.specs.Printing.{space, lineEnd, answerText, modeText, stateText, replyText, traceText, viewText, fieldsText, printed}
 
 -- ---- how long each part is
 pub answer-length : (n answer : ℕ) → length (answerText n answer) ≤ 41
@@ -106,13 +108,6 @@ reply-some reply n h e = rw (ne-eqb (length (take n reply)) 0 (λ q. e (sym (len
 
 -- ---- a whole line
 module _ (buf : List ℕ) (room : 1700 ≤ length buf) (n : ℕ) where
-  pub bad-wrote : (r₁ : ℕ) (out₁ : List ℕ) (r : ℕ) (out : List ℕ)
-      → Put buf 0 (decimalText n) r₁ out₁ → Put out₁ r₁ (0x20 ∷ 0x42 ∷ 0x41 ∷ 0x44 ∷ 0x0A ∷ []) r out → Wrote buf 0 (badText n) r out
-  unfolding badText
-  bad-wrote r₁ out₁ r out p q =
-      let l = decimal-length n in
-      then-put buf 0 (decimalText n) r₁ out₁ (put-whole buf 0 (decimalText n) (omega arith) r₁ out₁ p) (0x20 ∷ 0x42 ∷ 0x41 ∷ 0x44 ∷ 0x0A ∷ []) r out (omega arith) q
-
   module _ (x r₁ : ℕ) (out₁ : List ℕ) (w : Wrote buf 0 (answerText n x) r₁ out₁) where
     pub answer-room : r₁ + 5 ≤ length out₁
     answer-room = let l = answer-length n x in wrote-room buf 0 (answerText n x) r₁ out₁ w 5 (omega arith)
@@ -141,9 +136,9 @@ fields-wrote buf view n o r₁ out₁ r₂ out₂ r₃ out₃ r out h i j p q s 
     then-put buf 0 (two ++ viewText view o) r₃ out₃ w lineEnd r out (omega arith) t
 
 module _ (buf : List ℕ) (view : View) (n : ℕ) (b : Bool) (o : Outcome) (r : ℕ) (out : List ℕ) where
-  pub line-bad : b ≡ true → Wrote buf 0 (badText n) r out → Wrote buf 0 (printed view n b o) r out
+  pub line-bad : 1700 ≤ length buf → b ≡ true → Put buf 0 (badText n) r out → Wrote buf 0 (printed view n b o) r out
   unfolding printed
-  line-bad e w = rw e w
+  line-bad h e p = rw e (put-whole buf 0 (badText n) (omega (arith, bad-length n)) r out p)
 
   pub line-fields : b ≡ false → Wrote buf 0 (fieldsText view n o) r out → Wrote buf 0 (printed view n b o) r out
   unfolding printed
@@ -151,10 +146,10 @@ module _ (buf : List ℕ) (view : View) (n : ℕ) (b : Bool) (o : Outcome) (r : 
 
 -- ---- the text of a line fits its buffer
 pub printed-length : (view : View) (n : ℕ) (b : Bool) (o : Outcome) → length (o .line) ≤ 545 → length (o .agent .regs) ≤ 256 → length (printed view n b o) ≤ 1700
-unfolding printed fieldsText badText
+unfolding printed fieldsText
 printed-length view n b o h k =
     by-test (λ (l : List ℕ). length l ≤ 1700) b
-    (λ e. omega (arith, decimal-length n, length-append (decimalText n) (0x20 ∷ 0x42 ∷ 0x41 ∷ 0x44 ∷ 0x0A ∷ [])))
+    (λ e. omega (arith, bad-length n))
     (λ e.
     let two : List ℕ = answerText n (o .answer) ++ stateText (o .agent) in
     omega (

@@ -5,6 +5,7 @@ use Prim.Native.Nat.{ℕ}
 use lib.Dec.{eqb}
 use lib.ListN.{length}
 use Rattle.base.specs.Choice.{choose}
+use Rattle.text.specs.BadLines.{badText}
 use Rattle.text.specs.Decimal.{decimalText}
 use Rattle.text.specs.Putting.{hexDigits, hexText}
 use Rattle.rules.specs.Replies.{Outcome}
@@ -32,10 +33,6 @@ traceHeader =
 abbrev pub headerOf : View → List ℕ
 headerOf Script = scriptHeader ++ lineEnd
 headerOf Trace = scriptHeader ++ (traceHeader ++ lineEnd)
-
--- the line number, a space and BAD
-unfoldable pub badText : ℕ → List ℕ
-badText n = decimalText n ++ (0x20 ∷ 0x42 ∷ 0x41 ∷ 0x44 ∷ 0x0A ∷ [])
 
 -- line number and answer
 unfoldable pub answerText : ℕ → ℕ → List ℕ

@@ -4,9 +4,10 @@ ghost use Prim.Native.Nat.{_+_, _≤_};
 ghost use lib.ListN.{length, take, replicate};
 ghost use Rattle.text.specs.Putting.{putAt, placeAfter, Wrote};
 ghost use Rattle.agent_replies.specs.Handling.{told};
-ghost use Rattle.script_text.specs.Printing.{headerOf, badText, answerText, modeText, stateText, replyText, traceText, viewText, fieldsText, printed};
+ghost use Rattle.script_text.specs.Printing.{headerOf, answerText, modeText, stateText, replyText, traceText, viewText, fieldsText, printed};
 use agent_replies::sending::Handled;
 use rules::Agent;
+use text::bad_lines::put_bad;
 use text::decimal::put_decimal;
 use text::putting::put_byte;
 use text::putting::put_bytes;
@@ -115,15 +116,6 @@ fn put_fields(buf: &mut [u8], view: View, number: u64, h: Handled, reply: &[u8])
     put_text(buf, c, b"\n")
 }
 
-// The text for a bad line.
-fn put_bad(buf: &mut [u8], number: u64) -> usize
-    requires { ⌜ 1700 ≤ length (now buf) ⌝ }
-    ensures { λ r. ⌜ Wrote (now (buf .entry)) 0 (badText number) r (now (buf .exit)) ⌝ }
-{
-    let a = put_decimal(buf, 0, number);
-    put_text(buf, a, b" BAD\n")
-}
-
 // Puts a line's text at the buffer's start; returns its length.
 pub fn put_line(
     buf: &mut [u8],
@@ -137,7 +129,7 @@ pub fn put_line(
     ensures { λ r. ⌜ Wrote (now (buf .entry)) 0 (printed view number bad (told h (now (reply .entry)))) r (now (buf .exit)) ⌝ }
 {
     if bad {
-        return put_bad(buf, number);
+        return put_bad(buf, 0, number);
     }
     put_fields(buf, view, number, h, reply)
 }

@@ -5,3 +5,4 @@ pub mod DecimalLaws
 pub mod DecimalBothWays
 pub mod LineLaws
 pub mod PuttingLaws
+pub mod BadLineLaws

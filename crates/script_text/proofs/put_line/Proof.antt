@@ -11,7 +11,7 @@ same-length : tie.Need-same-length
 same-length c = search needs
 
 returns : tie.Need-returns
-returns c = line-bad _ _ _ _ _ _ _ (c .before .before .before .before .if1 .taken) (c .before .before .put-bad .ensures)
+returns c = line-bad _ _ _ _ _ _ _ (c .before .before .before .before .before .before .before .pre .2) (c .before .before .before .before .if1 .taken) (c .before .before .put-bad .ensures)
 
 put-fields-requires : tie.Need-put-fields-requires
 put-fields-requires c κs = search needs

@@ -6,10 +6,10 @@ use native.Mathlib.Omega.{arith}
 use borrow.Author.Tests.{not-true, not-false}
 use lib.ListN.{length}
 use Rattle.console.specs.Answering.{Stands}
-use Rattle.console.proofs.AnsweringLaws.{stands-none, stands-more}
+use Rattle.console.proofs.AnsweringLaws.{told-whole, told-neither, room-made, stands-none, stands-more}
 use Rattle.load.specs.Cycles.{mostLines}
 use Rattle.load.specs.Loading.{loading}
-use Rattle.load.proofs.RunningLaws.{line-answered, room-left, room-made, fewer-left, end-put, stop-put, told-neither}
+use Rattle.load.proofs.RunningLaws.{line-answered, room-left, fewer-left, end-put, stop-put}
 use borrow.Author.Needs.{needs}
 use Rattle.load.proofs.running.load_all.Statement.{statement}
 use Rattle.load.proofs.running.load_all.Tie as tie
@@ -56,7 +56,7 @@ loop-again c =
     let o : length (c .before .before .before .before .before .before .before .before .before .before .before .before .before .loop .out) ≡ 16384 = search needs in
     let w = not-false _ (c .before .before .before .before .before .if2 .left) in
     let a = c .before .load-line .ensures in
-    (stands-more loading _ _ _ _ _ _ _ _ _ _ (c .before .before .before .before .before .before .before .before .before .before .before .before .before .loop .inv .0) (n .ensures) w (line-answered _ _ _ _ _ _ _ _ e a), omega (arith, o, room-left _ _ _ _ _ _ _ _ e a (room-made _ _ _ _ _ _ (n .ensures) w)))
+    (stands-more loading _ _ _ _ _ _ _ _ _ _ (c .before .before .before .before .before .before .before .before .before .before .before .before .before .loop .inv .0) (n .ensures) w (line-answered _ _ _ _ _ _ _ _ e a), omega (arith, o, room-left _ _ _ _ _ _ _ _ e a (room-made _ _ _ _ _ _ (n .ensures) (told-whole (n .result) w))))
 
 put-cycle-requires-2 : tie.Need-put-cycle-requires-2 Inv-loop μ-loop
 put-cycle-requires-2 c κs = search needs
