@@ -1,5 +1,6 @@
 //! The parts of the second implementation, for its own program and for the programs in `host/`.
 
+pub mod beside;
 pub mod body;
 pub mod cases;
 pub mod census;
@@ -10,6 +11,7 @@ pub mod frame;
 pub mod fuzz;
 pub mod generate;
 pub mod hex;
+pub mod journey;
 pub mod load;
 pub mod million;
 pub mod module;
@@ -19,3 +21,4 @@ pub mod spelling;
 pub mod strike;
 pub mod stuffing;
 pub mod vectors;
+pub mod worst;

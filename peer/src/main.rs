@@ -13,15 +13,25 @@
 //! - `peer census`: a script on standard input, what it brings up and how often on standard output
 //! - `peer list-census`: the same for a list
 //! - `peer load-census`: a script on standard input, what its cycles of the line load bring up
-//! - `peer fuzz trace|load COUNT SEED PROGRAM...`: fresh scripts through `trace` or `load` and another such program
+//! - `peer worst`: a journey on standard input, its worst thousand cycles on standard output
+//! - `peer journeys SEED COUNT`: a seeded journey of COUNT lines for it
+//! - `peer edges`: the names of the journeys about the edges
+//! - `peer edge NAME`: that journey
+//! - `peer fuzz trace|load|worst COUNT SEED PROGRAM...`: fresh scripts through `trace` or `load`, or fresh journeys through
+//!   `worst`, and another such program
 //! - `peer million PROGRAM...`: scripts of a million lines and more through `load` and another load program
+//! - `peer beside DIR PROGRAM...`: the journeys stored in DIR, and large ones that are made, through `worst` and another
+//!   journey program
 //! - `peer strike COUNT SEED PROGRAM... -- PROGRAM...`: fresh scripts with refused frames struck, through a trace
 //!   program and a script program
 //! - `peer test`: self checks
 
 use peer::cases::{self, Program};
-use peer::{census, check, fuzz, generate, load, million, script, spelling, strike};
+use peer::{
+    beside, census, check, fuzz, generate, journey, load, million, script, spelling, strike, worst,
+};
 use std::io::{self, BufWriter, ErrorKind, Read, Write};
+use std::path::Path;
 use std::process::ExitCode;
 
 const USAGE: &str = "usage: peer answer crc|body|frame
@@ -37,8 +47,13 @@ const USAGE: &str = "usage: peer answer crc|body|frame
        peer census
        peer list-census
        peer load-census
-       peer fuzz trace|load COUNT SEED PROGRAM...
+       peer worst
+       peer journeys SEED COUNT
+       peer edges
+       peer edge NAME
+       peer fuzz trace|load|worst COUNT SEED PROGRAM...
        peer million PROGRAM...
+       peer beside DIR PROGRAM...
        peer strike COUNT SEED PROGRAM... -- PROGRAM...
        peer test
 ";
@@ -66,7 +81,7 @@ fn main() -> ExitCode {
         ["million", ref command @ ..] if !command.is_empty() => Some(a_million(command)),
         ["strike", count, seed, ref commands @ ..] => struck(count, seed, commands),
         ["test"] => Some(test()),
-        _ => None,
+        _ => of_journeys(&words),
     };
     match outcome {
         Some(Ok(code)) => code,
@@ -129,6 +144,30 @@ fn line_load() -> io::Result<ExitCode> {
     Ok(ExitCode::SUCCESS)
 }
 
+/// `None` for words that are not about journeys.
+fn of_journeys(words: &[&str]) -> Option<io::Result<ExitCode>> {
+    match *words {
+        ["worst"] => Some(worst_thousand()),
+        ["journeys", seed, count] => made(journey::journey, seed, count),
+        ["edges"] => Some(edges()),
+        ["edge", name] => journey::edge(name).map(print),
+        ["beside", folder, ref command @ ..] if !command.is_empty() => {
+            Some(journeys_beside(folder, command))
+        }
+        _ => None,
+    }
+}
+
+fn worst_thousand() -> io::Result<ExitCode> {
+    worst::run(io::stdin().lock(), io::stdout().lock())?;
+    Ok(ExitCode::SUCCESS)
+}
+
+fn edges() -> io::Result<ExitCode> {
+    let names = journey::edges().into_iter().map(|edge| edge.name + "\n");
+    print(names.collect::<String>())
+}
+
 /// `None` for a word that is not a number.
 fn ring(count: &str) -> Option<io::Result<ExitCode>> {
     Some(print(generate::ring(count.parse().ok()?)))
@@ -145,6 +184,7 @@ fn fuzzed(name: &str, count: &str, seed: &str, command: &[&str]) -> Option<io::R
     let subject = match name {
         "trace" => fuzz::TRACE,
         "load" => fuzz::LOAD,
+        "worst" => fuzz::WORST,
         _ => return None,
     };
     let (count, seed) = (count.parse().ok()?, seed.parse().ok()?);
@@ -161,6 +201,12 @@ fn fuzzed(name: &str, count: &str, seed: &str, command: &[&str]) -> Option<io::R
 
 fn a_million(command: &[&str]) -> io::Result<ExitCode> {
     let report = million::run(command)?;
+    print(report.to_string())?;
+    Ok(verdict(report.right()))
+}
+
+fn journeys_beside(folder: &str, command: &[&str]) -> io::Result<ExitCode> {
+    let report = beside::run(Path::new(folder), command)?;
     print(report.to_string())?;
     Ok(verdict(report.right()))
 }

@@ -4,6 +4,7 @@
 mod bad;
 mod bodies;
 mod grounds;
+mod journey;
 mod list;
 mod load;
 mod open;
@@ -14,6 +15,7 @@ mod windows;
 mod writes;
 
 pub use grounds::CHANGED;
+pub use journey::of_journey;
 pub use list::{of_list, ListCensus};
 pub use load::{of_load, LoadCensus};
 pub use sent::events as sent;

@@ -1,7 +1,7 @@
 //! Self checks: stored vectors, published and proved values, round trips of every kind, the
 //! cases on the bench, what the host may do wrong, the limit of requests, the numbers skipped, the tick
-//! call, the window of syncs, the ground of fallback, the traps, the script, the frame and the load program, what
-//! the terminals show and what striking refused frames leaves.
+//! call, the window of syncs, the ground of fallback, the traps, the script, the frame, the load and the journey
+//! program, what the terminals show and what striking refused frames leaves.
 
 mod bench;
 mod ground;
@@ -19,6 +19,7 @@ mod printed;
 mod programs;
 mod refusals;
 mod rules;
+mod running;
 mod script;
 mod skip;
 mod spelling;
@@ -29,6 +30,10 @@ mod terminals;
 mod tick;
 mod traps;
 mod window;
+mod worst;
+mod worst_faults;
+mod worst_journeys;
+mod worst_wrong;
 mod wrong;
 
 use crate::body;
@@ -80,6 +85,9 @@ pub fn run() -> Tally {
     load_edges::run(&mut tally);
     load_wrong::run(&mut tally);
     million::run(&mut tally);
+    worst::run(&mut tally);
+    worst_journeys::run(&mut tally);
+    worst_wrong::run(&mut tally);
     terminals::run(&mut tally);
     printed::run(&mut tally);
     struck::run(&mut tally);

@@ -1,6 +1,6 @@
 //! Line loads compared: scripts made for the load program and others, long and short, and what their cycles bring up.
 
-use super::subject::{perhaps_mutated, Counts, Script, Subject};
+use super::subject::{perhaps_mutated, Counts, Kind, Script, Subject};
 use crate::generate;
 use crate::generate::random::Random;
 use crate::{census, load};
@@ -9,6 +9,7 @@ use crate::{census, load};
 const OTHER_ONE_IN: usize = 5;
 
 pub const LOAD: Subject = Subject {
+    kind: Kind::Scripts,
     script,
     print: line_load,
     count: |script, _, counts| cycles(script, counts),

@@ -7,13 +7,16 @@ mod report;
 pub(crate) mod shrink;
 mod subject;
 mod traced;
+mod worst;
 
 pub(crate) use load::line_load;
 pub use load::LOAD;
 pub(crate) use subject::{text, Ending};
-pub use subject::{Counts, Subject};
+pub use subject::{Counts, Kind, Subject};
 pub use traced::TRACE;
 pub(crate) use traced::{script_lines, trace};
+pub(crate) use worst::worst_thousand;
+pub use worst::WORST;
 
 use other::Other;
 use std::io;
@@ -21,6 +24,7 @@ use subject::Script;
 
 #[derive(Default)]
 pub struct Report {
+    pub kind: Kind,
     pub scripts: usize,
     pub lines: usize,
     pub counts: Counts,
@@ -28,6 +32,7 @@ pub struct Report {
 }
 
 pub struct Difference {
+    pub kind: Kind,
     pub seed: u64,
     pub lines_before: usize,
     pub script: Vec<Vec<u8>>,
@@ -49,7 +54,10 @@ pub fn compare(
     seed: u64,
     other: impl Fn(&[u8]) -> io::Result<Vec<u8>>,
 ) -> io::Result<Report> {
-    let mut report = Report::default();
+    let mut report = Report {
+        kind: subject.kind,
+        ..Report::default()
+    };
     for seed in seed..seed + count as u64 {
         let script = (subject.script)(seed);
         let text = script.text();
@@ -73,12 +81,18 @@ fn difference(
 ) -> io::Result<Difference> {
     let Script { lines, ending } = script;
     let lines_before = lines.len();
-    let script = shrink::shortest(lines, |lines| {
+    let fails = |lines: &[Vec<u8>]| {
         let text = ending.text(lines);
         Ok(other(&text)? != (subject.print)(&text))
-    })?;
+    };
+    let shortest = shrink::shortest(lines, fails)?;
+    let script = match subject.kind {
+        Kind::Scripts => shortest,
+        Kind::Journeys => worst::zeros(shortest, fails)?,
+    };
     let text = ending.text(&script);
     Ok(Difference {
+        kind: subject.kind,
         seed,
         lines_before,
         own: (subject.print)(&text),

@@ -7,11 +7,21 @@ use std::collections::BTreeMap;
 pub type Counts = BTreeMap<String, usize>;
 
 pub struct Subject {
+    pub(super) kind: Kind,
     /// The script of a seed.
     pub(super) script: fn(u64) -> Script,
     pub(super) print: fn(&[u8]) -> Vec<u8>,
     /// Adds what a script, and what is printed of it, bring up.
     pub(super) count: fn(&[u8], &[u8], &mut Counts),
+}
+
+/// What the scripts are.
+#[derive(Clone, Copy, Debug, Default, PartialEq, Eq)]
+pub enum Kind {
+    #[default]
+    Scripts,
+    /// Their lines are counts.
+    Journeys,
 }
 
 pub struct Script {

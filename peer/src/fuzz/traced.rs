@@ -1,6 +1,6 @@
 //! Traces compared: scripts with scenes of all kinds, and how often each answer came.
 
-use super::subject::{perhaps_mutated, Counts, Ending, Script, Subject};
+use super::subject::{perhaps_mutated, Counts, Ending, Kind, Script, Subject};
 use crate::generate;
 use crate::generate::random::Random;
 use crate::script::{self, Program};
@@ -9,6 +9,7 @@ use crate::script::{self, Program};
 const LONG_ONE_IN: usize = 40;
 
 pub const TRACE: Subject = Subject {
+    kind: Kind::Scripts,
     script: |seed| Script {
         lines: script_lines(seed),
         ending: Ending::Lf,

@@ -7,12 +7,12 @@ mod feed;
 mod report;
 
 pub use case::{cases, common, After, Case};
+pub(crate) use feed::feed;
 pub use report::{Compared, Report};
 
 use crate::fuzz;
 use crate::generate::Ring;
 use crate::load::{self, Course, LINES_MAX};
-use feed::feed;
 use std::io;
 
 /// All scripts, through the program with this command. An error is one of running it.
