@@ -1,14 +1,17 @@
 -- Laws of what a line does: ticks one by one, and what a call hands back. Assumes nothing.
-use mathlib.Core.Path.{_≡_, sym, ap, _∙_}
+use mathlib.Core.Path.{_≡_, refl, sym, ap, _∙_}
 use mathlib.Core.List.{List}
-use Prim.Native.Nat.{ℕ, _+_, _-_, _≤_, _<_}
+use Prim.Native.Nat.{ℕ, zero, suc, _+_, _-_, _≤_, _<_}
 use native.Mathlib.Omega.{arith}
 use lib.ListN.{length, take, drop, length-append}
 use lib.Seq.{take-at}
 use Rattle.base.proofs.Fills.{left-turn, left-end}
 use Rattle.rules.specs.Calls.{tickCall, leftIn}
 use Rattle.rules.specs.Replies.{Outcome, outcome}
+use Rattle.rules.specs.State.{tOf}
 use Rattle.rules.specs.declared.Agent.{Agent}
+use Rattle.agent_rest.specs.Rest.{clockOf, withClockOf, clockTick, clockTicks}
+use Rattle.agent_rest.proofs.RestLaws.{Rests, rest-tick, rest-stays}
 use Rattle.agent_replies.specs.Handling.{told}
 use Rattle.agent_replies.specs.declared.sending.Handled.{Handled}
 use Rattle.script_lines.specs.Doing.{heldInputs, afterTicks}
@@ -21,6 +24,12 @@ ticks-turn n i a b z h q e = ap (afterTicks (n - (i + 1))) q ∙ ap (λ (m : ℕ
 pub ticks-end : (n i : ℕ) (a z : Agent) → n ≤ i → afterTicks (n - i) a ≡ z → a ≡ z
 unfolding afterTicks
 ticks-end n i a z h e = ap (λ (m : ℕ). afterTicks m a) (sym (left-end n i h)) ∙ e
+
+-- those of a module at rest move its clock alone
+pub ticks-rest : (n : ℕ) (a : Agent) → Rests a → afterTicks n a ≡ withClockOf (clockTicks (tOf a) n (clockOf a)) a
+unfolding afterTicks clockTicks
+ticks-rest zero a x = refl
+ticks-rest (suc n) a x = ap (afterTicks n) (rest-tick a x) ∙ ticks-rest n (withClockOf (clockTick (tOf a) (clockOf a)) a) (rest-stays a x)
 
 -- ---- what is handed back
 module _ (h : Handled) (o : Outcome) (out : List ℕ) (p : h .answer ≡ o .answer) (q : h .agent ≡ o .agent) (r : h .sent ≡ length (o .line)) where

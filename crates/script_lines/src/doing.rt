@@ -1,10 +1,12 @@
 // The module of a script, and what a line does to it.
 ghost use mathlib.Core.Path.{_≡_};
+ghost use mathlib.Core.Bool.{true};
 ghost use Prim.Native.Nat.{_≤_};
 ghost use lib.ListN.{length, take, replicate};
 ghost use Rattle.rules.specs.Calls.{tickCall, frameCall};
 ghost use Rattle.rules.specs.Registers.{image};
 ghost use Rattle.agent_replies.specs.Handling.{told};
+ghost use Rattle.agent_rest.specs.Rest.{atRest};
 ghost use Rattle.script_lines.specs.Forms.{stepIn};
 ghost use Rattle.script_lines.specs.Doing.{scriptModule, heldInputs, afterTicks, done};
 use crate::forms::Form;
@@ -12,6 +14,8 @@ use crate::forms::IMAGE;
 use agent::calls;
 use agent::power_up::power_up;
 use agent_replies::sending::Handled;
+use agent_rest::at_rest;
+use agent_rest::rest_ticks;
 use agent_state::answers::ACCEPTED;
 use agent_state::limit::DOORS_LIMIT;
 use agent_state::registers::INPUTS;
@@ -43,12 +47,22 @@ fn tick_held(a: Agent) -> Agent
     next.agent
 }
 
+// Ticks of a module at rest, with the inputs held: they move only its clock.
+fn ticks_at_rest(a: Agent, n: u64) -> Agent
+    ensures { λ r. ⌜ (atRest a ≡ true → r ≡ afterTicks n a) ⌝ }
+{
+    rest_ticks(a, n)
+}
+
 fn ticks(a: Agent, n: u64) -> Agent
     ensures { λ r. ⌜ r ≡ afterTicks n a ⌝ }
 {
     let mut b = a;
     let mut i: u64 = 0;
     while i < n {
+        if at_rest(b) {
+            return ticks_at_rest(b, n - i);
+        }
         b = tick_held(b);
         i += 1;
     }
