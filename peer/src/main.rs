@@ -17,18 +17,27 @@
 //! - `peer journeys SEED COUNT`: a seeded journey of COUNT lines for it
 //! - `peer edges`: the names of the journeys about the edges
 //! - `peer edge NAME`: that journey
-//! - `peer fuzz trace|load|worst COUNT SEED PROGRAM...`: fresh scripts through `trace` or `load`, or fresh journeys through
-//!   `worst`, and another such program
+//! - `peer which`: a script on standard input, the one frame that mattered on standard output
+//! - `peer incident SEED`: a seeded script for it
+//! - `peer incident-edges`: the names of the incidents about the edges
+//! - `peer incident-edge NAME`: that incident
+//! - `peer incident-heavy rest|run`: a script that takes long, in fallback through nearly all of its ticks, or in RUN
+//!   through many
+//! - `peer fuzz trace|load|worst|which COUNT SEED PROGRAM...`: fresh scripts through `trace`, `load` or `which`, or fresh
+//!   journeys through `worst`, and another such program
 //! - `peer million PROGRAM...`: scripts of a million lines and more through `load` and another load program
 //! - `peer beside DIR PROGRAM...`: the journeys stored in DIR, and large ones that are made, through `worst` and another
 //!   journey program
+//! - `peer incident-beside DIR PROGRAM...`: the incidents stored in DIR, noise, and inputs that are too long, through
+//!   `which` and another which program; with `--heavy` in the place of DIR only two that take long
 //! - `peer strike COUNT SEED PROGRAM... -- PROGRAM...`: fresh scripts with refused frames struck, through a trace
 //!   program and a script program
 //! - `peer test`: self checks
 
 use peer::cases::{self, Program};
 use peer::{
-    beside, census, check, fuzz, generate, journey, load, million, script, spelling, strike, worst,
+    beside, census, check, fuzz, generate, incident, journey, load, million, script, spelling,
+    strike, which, worst,
 };
 use std::io::{self, BufWriter, ErrorKind, Read, Write};
 use std::path::Path;
@@ -51,9 +60,15 @@ const USAGE: &str = "usage: peer answer crc|body|frame
        peer journeys SEED COUNT
        peer edges
        peer edge NAME
-       peer fuzz trace|load|worst COUNT SEED PROGRAM...
+       peer which
+       peer incident SEED
+       peer incident-edges
+       peer incident-edge NAME
+       peer incident-heavy rest|run
+       peer fuzz trace|load|worst|which COUNT SEED PROGRAM...
        peer million PROGRAM...
        peer beside DIR PROGRAM...
+       peer incident-beside DIR|--heavy PROGRAM...
        peer strike COUNT SEED PROGRAM... -- PROGRAM...
        peer test
 ";
@@ -81,7 +96,7 @@ fn main() -> ExitCode {
         ["million", ref command @ ..] if !command.is_empty() => Some(a_million(command)),
         ["strike", count, seed, ref commands @ ..] => struck(count, seed, commands),
         ["test"] => Some(test()),
-        _ => of_journeys(&words),
+        _ => of_journeys(&words).or_else(|| of_incidents(&words)),
     };
     match outcome {
         Some(Ok(code)) => code,
@@ -152,7 +167,7 @@ fn of_journeys(words: &[&str]) -> Option<io::Result<ExitCode>> {
         ["edges"] => Some(edges()),
         ["edge", name] => journey::edge(name).map(print),
         ["beside", folder, ref command @ ..] if !command.is_empty() => {
-            Some(journeys_beside(folder, command))
+            Some(told(beside::run(Path::new(folder), command)))
         }
         _ => None,
     }
@@ -165,6 +180,36 @@ fn worst_thousand() -> io::Result<ExitCode> {
 
 fn edges() -> io::Result<ExitCode> {
     let names = journey::edges().into_iter().map(|edge| edge.name + "\n");
+    print(names.collect::<String>())
+}
+
+/// `None` for words that are not about incidents.
+fn of_incidents(words: &[&str]) -> Option<io::Result<ExitCode>> {
+    match *words {
+        ["which"] => Some(which_frame()),
+        ["incident", seed] => Some(print(generate::incident(seed.parse().ok()?))),
+        ["incident-edges"] => Some(incident_edges()),
+        ["incident-edge", name] => incident::edge(name).map(print),
+        ["incident-heavy", name] => incident::heavy(name).map(|heavy| print(heavy.script())),
+        ["incident-beside", "--heavy", ref command @ ..] if !command.is_empty() => {
+            Some(told(beside::incidents::heavy(command)))
+        }
+        ["incident-beside", folder, ref command @ ..] if !command.is_empty() => {
+            let folder = Path::new(folder);
+            Some(told(beside::incidents::run(folder, command)))
+        }
+        _ => None,
+    }
+}
+
+fn which_frame() -> io::Result<ExitCode> {
+    which::run(io::stdin().lock(), io::stdout().lock())?;
+    Ok(ExitCode::SUCCESS)
+}
+
+fn incident_edges() -> io::Result<ExitCode> {
+    let edges = incident::edges();
+    let names = edges.iter().map(|edge| format!("{}\n", edge.name));
     print(names.collect::<String>())
 }
 
@@ -185,6 +230,7 @@ fn fuzzed(name: &str, count: &str, seed: &str, command: &[&str]) -> Option<io::R
         "trace" => fuzz::TRACE,
         "load" => fuzz::LOAD,
         "worst" => fuzz::WORST,
+        "which" => fuzz::WHICH,
         _ => return None,
     };
     let (count, seed) = (count.parse().ok()?, seed.parse().ok()?);
@@ -205,8 +251,8 @@ fn a_million(command: &[&str]) -> io::Result<ExitCode> {
     Ok(verdict(report.right()))
 }
 
-fn journeys_beside(folder: &str, command: &[&str]) -> io::Result<ExitCode> {
-    let report = beside::run(Path::new(folder), command)?;
+fn told(report: io::Result<beside::Report>) -> io::Result<ExitCode> {
+    let report = report?;
     print(report.to_string())?;
     Ok(verdict(report.right()))
 }

@@ -1,7 +1,8 @@
 //! Journeys through this journey program and another: the stored ones of a folder, and large ones that are made. Both must
-//! print the same, and the other must end where the document ends the work.
+//! print the same, and the other must end where the document ends the work. `incidents` does the same for the which program.
 
 mod blocks;
+pub mod incidents;
 mod large;
 mod noise;
 mod pieces;
@@ -31,7 +32,10 @@ pub fn run(folder: &Path, command: &[&str]) -> io::Result<Report> {
     for case in large::CASES {
         groups.push(Group::new(case.name, vec![one(command, &case, &million)?]));
     }
-    Ok(Report { groups })
+    Ok(Report {
+        noun: "journeys",
+        groups,
+    })
 }
 
 /// Each journey with its name, whole and then ended.

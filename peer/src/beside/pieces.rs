@@ -16,27 +16,28 @@ pub fn compare(command: &[&str]) -> io::Result<Vec<Compared>> {
     let journey = [b"123\n".repeat(1_200), b"255\n".to_vec()].concat();
     let own = worst_thousand(&journey);
     let compare = |cut: usize| {
-        let printed = print(command, journey.split_at(cut))?;
+        let (first, second) = journey.split_at(cut);
+        let printed = print(command, &[first, second], PAUSE)?;
         Ok(Compared::of(&format!("cut at byte {cut}"), &own, &printed))
     };
     CUTS.into_iter().map(compare).collect()
 }
 
-/// What it printed; if the program failed, that is said after its output.
-fn print(command: &[&str], (first, second): (&[u8], &[u8])) -> io::Result<Vec<u8>> {
+/// What it printed, with a pause after each piece; if the program failed, that is said after its output.
+pub fn print(command: &[&str], pieces: &[&[u8]], pause: Duration) -> io::Result<Vec<u8>> {
     let mut child = Command::new(command[0])
         .args(&command[1..])
         .stdin(Stdio::piped())
         .stdout(Stdio::piped())
         .spawn()?;
     let mut input = child.stdin.take().expect("a pipe");
-    for piece in [first, second] {
+    for piece in pieces {
         match input.write_all(piece) {
             // It shows in what the program prints.
             Err(error) if error.kind() == ErrorKind::BrokenPipe => break,
             outcome => outcome?,
         }
-        thread::sleep(PAUSE);
+        thread::sleep(pause);
     }
     drop(input);
     let output = child.wait_with_output()?;

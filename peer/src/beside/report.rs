@@ -1,18 +1,20 @@
-//! What the journeys came to, in words.
+//! What the journeys or the scripts came to, in words.
 
 use std::fmt;
 
 pub struct Report {
+    /// What they are, in the plural.
+    pub noun: &'static str,
     pub groups: Vec<Group>,
 }
 
-/// Journeys that are reported on one line.
+/// Journeys or scripts that are reported on one line.
 pub struct Group {
     pub name: &'static str,
     pub compared: Vec<Compared>,
 }
 
-/// One journey.
+/// One journey or script.
 pub struct Compared {
     pub name: String,
     /// What this program prints.
@@ -21,7 +23,7 @@ pub struct Compared {
 }
 
 impl Report {
-    /// A group without journeys is wrong too.
+    /// A group without any is wrong too.
     pub fn right(&self) -> bool {
         self.groups.iter().all(Group::right)
     }
@@ -84,11 +86,11 @@ impl fmt::Display for Report {
         for group in &self.groups {
             write!(output, "{group}")?;
         }
-        let journeys: usize = self.groups.iter().map(|group| group.compared.len()).sum();
+        let count: usize = self.groups.iter().map(|group| group.compared.len()).sum();
         let verdict = match self.right() {
             true => "no difference",
             false => "DIFFERENT",
         };
-        writeln!(output, "{journeys} journeys: {verdict}")
+        writeln!(output, "{count} {}: {verdict}", self.noun)
     }
 }

@@ -1,9 +1,11 @@
 //! What a script brings up, and how often: answers, the ways into RUN and out of it, and more.
-//! For lists of the frame program, `list` does the same, and `load` for the cycles of the line load.
+//! For lists of the frame program, `list` does the same, `load` for the cycles of the line load, `journey` and `incident`
+//! for what the journey and the which program print.
 
 mod bad;
 mod bodies;
 mod grounds;
+mod incident;
 mod journey;
 mod list;
 mod load;
@@ -15,6 +17,7 @@ mod windows;
 mod writes;
 
 pub use grounds::CHANGED;
+pub use incident::of_incident;
 pub use journey::of_journey;
 pub use list::{of_list, ListCensus};
 pub use load::{of_load, LoadCensus};

@@ -1,7 +1,6 @@
 //! The load program: the example of the decisions, cases worked out by hand, the division, and what a trace shows.
 
 use super::module::{FIRST, OWN, SECOND};
-use super::tape::Tape;
 use super::Tally;
 use crate::frame::{self, Frame, SidAssignment, BROADCAST};
 use crate::fuzz;
@@ -9,6 +8,7 @@ use crate::generate::{self, speech};
 use crate::hex;
 use crate::load::Cycle;
 use crate::script::{parse, Line};
+use crate::tape::Tape;
 
 /// From the decisions, byte for byte.
 const EXAMPLE: &str = "1 FF3CF0000000000000000205B8F7

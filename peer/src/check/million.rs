@@ -1,7 +1,6 @@
 //! The lines that the load program reads: to the millionth, and not one more.
 
 use super::module::FIRST;
-use super::tape::Tape;
 use super::Tally;
 use crate::fuzz;
 use crate::generate::{speech, Ring};
@@ -9,6 +8,7 @@ use crate::hex;
 use crate::load::{self, Course, LINES_MAX};
 use crate::million::case::{self, BAD_LAST, WOULD_OPEN, WOULD_SEND};
 use crate::million::{cases, common, print, Compared};
+use crate::tape::Tape;
 use std::io::{self, Read};
 
 /// In the place of a million.

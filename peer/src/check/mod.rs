@@ -1,12 +1,13 @@
 //! Self checks: stored vectors, published and proved values, round trips of every kind, the
 //! cases on the bench, what the host may do wrong, the limit of requests, the numbers skipped, the tick
-//! call, the window of syncs, the ground of fallback, the traps, the script, the frame, the load and the journey
-//! program, what the terminals show and what striking refused frames leaves.
+//! call, the window of syncs, the ground of fallback, the traps, the script, the frame, the load, the journey and the
+//! which program, what the terminals show and what striking refused frames leaves.
 
 mod bench;
 mod ground;
 mod history;
 mod host;
+mod keeping;
 mod limit;
 mod lists;
 mod load;
@@ -25,10 +26,15 @@ mod skip;
 mod spelling;
 mod strike;
 mod struck;
-mod tape;
 mod terminals;
 mod tick;
 mod traps;
+mod which;
+mod which_faults;
+mod which_incidents;
+mod which_laws;
+mod which_length;
+mod which_wrong;
 mod window;
 mod worst;
 mod worst_faults;
@@ -88,6 +94,7 @@ pub fn run() -> Tally {
     worst::run(&mut tally);
     worst_journeys::run(&mut tally);
     worst_wrong::run(&mut tally);
+    which_program(&mut tally);
     terminals::run(&mut tally);
     printed::run(&mut tally);
     struck::run(&mut tally);
@@ -102,6 +109,13 @@ pub fn run() -> Tally {
         }
     }
     tally
+}
+
+fn which_program(tally: &mut Tally) {
+    which::run(tally);
+    which_laws::run(tally);
+    which_incidents::run(tally);
+    which_wrong::run(tally);
 }
 
 fn crc_vectors(tally: &mut Tally) {

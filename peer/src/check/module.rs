@@ -5,9 +5,7 @@ use crate::generate::draft::Draft;
 use crate::generate::speech;
 use crate::module::{Agent, Fixed, Mode, Outcome};
 
-pub const OWN: u32 = 0x7D_5E01;
-pub const FIRST: u32 = 0x11_EE11;
-pub const SECOND: u32 = 0x22_DD22;
+pub use crate::tape::{FIRST, OWN, SECOND};
 
 #[derive(Clone)]
 pub struct Bench {

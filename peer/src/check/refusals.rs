@@ -1,11 +1,11 @@
 //! Scripts by hand with refused frames between those that have an effect, in RUN.
 
 use super::module::{FIRST, OWN, SECOND};
-use super::tape::Tape;
 use crate::body;
 use crate::frame::{Head, SidAssignment, BROADCAST};
 use crate::generate::draft::Draft;
 use crate::generate::speech;
+use crate::tape::Tape;
 
 /// A bit of the safety CRC turned, the FCS right.
 fn damaged(draft: &Draft) -> Vec<u8> {

@@ -2,13 +2,13 @@
 
 use super::module::FIRST;
 use super::refusals::*;
-use super::tape::Tape;
 use super::{programs, Tally};
 use crate::generate::draft::Draft;
 use crate::generate::speech;
 use crate::hex;
 use crate::module::Fixed;
 use crate::strike::{without, Printed, Programs, NAMED};
+use crate::tape::Tape;
 
 /// A script, and the lines in it that may be struck, by number and answer.
 type Case = (&'static str, fn() -> Tape, &'static [(usize, u8)]);

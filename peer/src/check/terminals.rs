@@ -1,13 +1,13 @@
 //! What the terminals show after scripts by hand, and that the watcher works out the same.
 
 use super::module::SECOND;
-use super::tape::Tape;
 use super::{programs, Tally};
 use crate::frame::Head;
 use crate::generate::speech;
 use crate::hex;
 use crate::module::Fixed;
 use crate::strike::{judge, Printed, Terminals};
+use crate::tape::Tape;
 
 /// A script, the answer of its last line, the mode then, and the bytes that are not 00h: from which terminal on, how
 /// many, and the byte.

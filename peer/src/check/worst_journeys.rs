@@ -111,11 +111,13 @@ fn compared(tally: &mut Tally) {
     ] {
         let one = || Compared::of("", own.as_bytes(), other.as_bytes());
         let report = Report {
+            noun: "journeys",
             groups: vec![Group::new("", vec![one(), one()])],
         };
         tally.check(report.right() == right, &format!("{own:?} and {other:?}"));
     }
     let report = Report {
+        noun: "journeys",
         groups: vec![Group::new("", Vec::new())],
     };
     tally.check(!report.right(), "a group without journeys");

@@ -7,6 +7,7 @@ mod report;
 pub(crate) mod shrink;
 mod subject;
 mod traced;
+mod which;
 mod worst;
 
 pub(crate) use load::line_load;
@@ -15,6 +16,8 @@ pub(crate) use subject::{text, Ending};
 pub use subject::{Counts, Kind, Subject};
 pub use traced::TRACE;
 pub(crate) use traced::{script_lines, trace};
+pub(crate) use which::which_frame;
+pub use which::WHICH;
 pub(crate) use worst::worst_thousand;
 pub use worst::WORST;
 

@@ -65,14 +65,23 @@ pub(crate) fn text<L: AsRef<[u8]>>(lines: &[L]) -> Vec<u8> {
 
 /// A script as it was made, or, in half of all, with some lines out of place.
 pub fn perhaps_mutated(random: &mut Random, made: &[u8]) -> Script {
+    let mut script = whole(made);
+    if random.one_in(2) {
+        mutate::some(random, &mut script.lines);
+    }
+    script
+}
+
+/// A script as it was made.
+pub fn whole(made: &[u8]) -> Script {
     let ending = match made.ends_with(b"\n") {
         true => Ending::Lf,
         false => Ending::NoLf,
     };
     let lines = made.strip_suffix(b"\n").unwrap_or(made);
-    let mut lines: Vec<Vec<u8>> = lines.split(|&byte| byte == b'\n').map(Vec::from).collect();
-    if random.one_in(2) {
-        mutate::some(random, &mut lines);
+    let lines = lines.split(|&byte| byte == b'\n').map(Vec::from);
+    Script {
+        lines: lines.collect(),
+        ending,
     }
-    Script { lines, ending }
 }

@@ -22,7 +22,7 @@ pub mod speech;
 
 pub use frame_lines::frame_lines;
 pub use ring::{ring, Ring};
-pub use script::{loads, script, script_as};
+pub use script::{incident, loads, script, script_as};
 
 use crate::cases::Program;
 use random::Random;

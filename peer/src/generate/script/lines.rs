@@ -3,7 +3,7 @@
 use super::faults::good;
 use super::stage::Stage;
 
-const WRONG: [&[u8]; 58] = [
+pub const WRONG: [&[u8]; 58] = [
     b"",
     b" ",
     b"\r",
@@ -65,7 +65,7 @@ const WRONG: [&[u8]; 58] = [
 ];
 
 /// Bytes that are not text.
-const NO_TEXT: [&[u8]; 8] = [
+pub const NO_TEXT: [&[u8]; 8] = [
     b"\0",
     b"1 00\0",
     b"\0T 1",

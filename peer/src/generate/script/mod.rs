@@ -4,6 +4,7 @@ mod cycles;
 mod faults;
 mod floods;
 mod grounds;
+mod incident;
 mod lines;
 mod load;
 mod manners;
@@ -21,6 +22,7 @@ mod takeover;
 mod turns;
 mod windows;
 
+pub use incident::incident;
 pub use load::loads;
 
 use crate::module::Fixed;

@@ -17,8 +17,21 @@ const MEMORY: usize = 200;
 /// Of a wait, how many of the first ticks and of the last are lines of inputs.
 const BY_INPUTS: [(u32, u32); 6] = [(0, 1), (0, 1), (0, 2), (1, 0), (1, 1), (3, 1)];
 
+/// Which of the frames that are sent come twice.
+#[derive(Clone, Copy, Debug, PartialEq, Eq)]
+pub enum Copies {
+    /// The copy comes on the other port, as on a ring.
+    NowAndThen,
+    /// A few of the copies come on the same port.
+    Always,
+    /// The same with a few frames that come once.
+    AlmostAlways,
+    Never,
+}
+
 pub struct Stage {
     pub random: Random,
+    pub copies: Copies,
     /// The index last used in each list that is gone through in turn.
     turns: HashMap<&'static str, usize>,
     player: Player,
@@ -30,6 +43,7 @@ impl Stage {
     pub fn new(fixed: Fixed, seed: u64) -> Stage {
         Stage {
             random: Random::new(seed),
+            copies: Copies::NowAndThen,
             turns: HashMap::new(),
             player: Player::power_up_as(fixed),
             lines: Vec::new(),
@@ -52,6 +66,10 @@ impl Stage {
 
     pub fn length(&self) -> usize {
         self.lines.len()
+    }
+
+    pub fn lines(&self) -> &[Vec<u8>] {
+        &self.lines
     }
 
     /// Only the first lines, and the module as they leave it.
@@ -125,15 +143,25 @@ impl Stage {
         self.say_on(port, body)
     }
 
-    /// On one port, and then now and then on the other, as on a ring.
+    /// On one port, and then perhaps once more, mostly on the other.
     pub fn send(&mut self, draft: &Draft) -> u8 {
         let (first, second) = self.random.pick(&[(1, 2), (2, 1)]);
         let body = draft.body();
         let number = self.say_on(first, &body);
-        if self.random.one_in(5) {
-            self.say_on(second, &body);
+        if self.copied() {
+            let same = self.copies != Copies::NowAndThen && self.random.one_in(6);
+            self.say_on(if same { first } else { second }, &body);
         }
         number
+    }
+
+    fn copied(&mut self) -> bool {
+        match self.copies {
+            Copies::NowAndThen => self.random.one_in(5),
+            Copies::Always => true,
+            Copies::Never => false,
+            Copies::AlmostAlways => !self.random.one_in(12),
+        }
     }
 
     /// The next of a list that is gone through from any start, again and again.

@@ -1,10 +1,13 @@
 //! A script by hand: the lines of a concentrator that counts cycles and requests itself, and of others between.
 
-use super::module::{FIRST, OWN, SECOND};
 use crate::frame::{Head, SidAssignment, BROADCAST};
 use crate::generate::draft::Draft;
 use crate::generate::speech;
 use crate::hex;
+
+pub const OWN: u32 = 0x7D_5E01;
+pub const FIRST: u32 = 0x11_EE11;
+pub const SECOND: u32 = 0x22_DD22;
 
 #[derive(Clone)]
 pub struct Tape {
@@ -15,28 +18,38 @@ pub struct Tape {
 }
 
 impl Tape {
-    /// From power-up to RUN with TCYC 10, CNF_CYC 2 and CNF_REP 5, in cycle 07h; two concentrators are recorded.
-    pub fn running() -> Tape {
-        let mut tape = Tape {
+    /// No line yet.
+    pub fn blank() -> Tape {
+        Tape {
             lines: Vec::new(),
             src: FIRST,
             cyc: 0,
             seq: 0,
-        };
+        }
+    }
+
+    /// From power-up to RUN with TCYC 10, CNF_CYC 2 and CNF_REP 5, in cycle 07h; two concentrators are recorded.
+    pub fn running() -> Tape {
+        let mut tape = Tape::blank();
         for src in [FIRST, SECOND] {
-            let assignment = SidAssignment {
-                src,
-                sec: 9,
-                mac: 1,
-                sid: OWN,
-            };
-            tape.say(1, &speech::sid(BROADCAST, assignment));
+            tape.assign(src);
         }
         tape.sync(0x06);
         tape.write(0x18, &[10]);
         tape.write(0x1A, &[5, 2]);
         tape.release();
         tape
+    }
+
+    /// The own SID, from this concentrator.
+    pub fn assign(&mut self, src: u32) {
+        let assignment = SidAssignment {
+            src,
+            sec: 9,
+            mac: 1,
+            sid: OWN,
+        };
+        self.say(1, &speech::sid(BROADCAST, assignment));
     }
 
     /// 55h to 17h, and the sync of the next cycle, on time.
@@ -89,8 +102,17 @@ impl Tape {
         }
     }
 
+    /// So many numbers are left out.
+    pub fn lose(&mut self, count: u8) {
+        self.seq = self.seq.wrapping_add(count);
+    }
+
     pub fn write(&mut self, add: u8, data: &[u8]) {
-        self.say(1, &speech::write(0x90, self.head(), add, data));
+        self.write_to(0x90, add, data);
+    }
+
+    pub fn write_to(&mut self, address: u8, add: u8, data: &[u8]) {
+        self.say(1, &speech::write(address, self.head(), add, data));
         self.seq = self.seq.wrapping_add(1);
     }
 

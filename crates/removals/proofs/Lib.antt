@@ -1,0 +1,5 @@
+pub mod TextLines
+pub mod PlayingLaws
+pub mod SearchingLaws
+pub mod Whole
+pub mod Meaning

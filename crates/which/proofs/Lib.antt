@@ -1,0 +1,2 @@
+pub mod PrintingLaws
+pub mod ReadingLaws
