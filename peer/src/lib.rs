@@ -7,6 +7,7 @@ pub mod census;
 pub mod check;
 pub mod crc;
 pub mod fields;
+pub mod flips;
 pub mod frame;
 pub mod fuzz;
 pub mod generate;

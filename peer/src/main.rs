@@ -32,12 +32,15 @@
 //!   `which` and another which program; with `--heavy` in the place of DIR only two that take long
 //! - `peer strike COUNT SEED PROGRAM... -- PROGRAM...`: fresh scripts with refused frames struck, through a trace
 //!   program and a script program
+//! - `peer flips COUNT SEED`: seeded bodies with bits flipped, off the wire and on it; how many are
+//!   read all the same
+//! - `peer flips search SEED`: safe writes that one flip and two flips on the wire turn into others
 //! - `peer test`: self checks
 
 use peer::cases::{self, Program};
 use peer::{
-    beside, census, check, fuzz, generate, incident, journey, load, million, script, spelling,
-    strike, which, worst,
+    beside, census, check, flips, fuzz, generate, incident, journey, load, million, script,
+    spelling, strike, which, worst,
 };
 use std::io::{self, BufWriter, ErrorKind, Read, Write};
 use std::path::Path;
@@ -70,6 +73,8 @@ const USAGE: &str = "usage: peer answer crc|body|frame
        peer beside DIR PROGRAM...
        peer incident-beside DIR|--heavy PROGRAM...
        peer strike COUNT SEED PROGRAM... -- PROGRAM...
+       peer flips COUNT SEED
+       peer flips search SEED
        peer test
 ";
 
@@ -77,8 +82,6 @@ fn main() -> ExitCode {
     let words: Vec<String> = std::env::args().skip(1).collect();
     let words: Vec<&str> = words.iter().map(String::as_str).collect();
     let outcome = match words[..] {
-        ["answer", name] => Program::named(name).map(answer),
-        ["cases", name, seed, count] => cases(name, seed, count),
         ["script"] => Some(play(script::Program::Script)),
         ["trace"] => Some(play(script::Program::Trace)),
         ["scripts", seed, count] => made(generate::script, seed, count),
@@ -96,7 +99,9 @@ fn main() -> ExitCode {
         ["million", ref command @ ..] if !command.is_empty() => Some(a_million(command)),
         ["strike", count, seed, ref commands @ ..] => struck(count, seed, commands),
         ["test"] => Some(test()),
-        _ => of_journeys(&words).or_else(|| of_incidents(&words)),
+        _ => of_bodies(&words)
+            .or_else(|| of_journeys(&words))
+            .or_else(|| of_incidents(&words)),
     };
     match outcome {
         Some(Ok(code)) => code,
@@ -110,6 +115,17 @@ fn main() -> ExitCode {
             eprint!("{USAGE}");
             ExitCode::from(2)
         }
+    }
+}
+
+/// `None` for words that are not about CRCs, bodies and single frames.
+fn of_bodies(words: &[&str]) -> Option<io::Result<ExitCode>> {
+    match *words {
+        ["answer", name] => Program::named(name).map(answer),
+        ["cases", name, seed, count] => cases(name, seed, count),
+        ["flips", "search", seed] => Some(searched(seed.parse().ok()?)),
+        ["flips", count, seed] => Some(flipped(count.parse().ok()?, seed.parse().ok()?)),
+        _ => None,
     }
 }
 
@@ -130,6 +146,21 @@ fn cases(name: &str, seed: &str, count: &str) -> Option<io::Result<ExitCode>> {
             .map(|line| format!("{line}\n"))
             .collect::<String>(),
     ))
+}
+
+fn flipped(count: usize, seed: u64) -> io::Result<ExitCode> {
+    let report = flips::run(count, seed);
+    print(report.to_string())?;
+    Ok(verdict(report.right()))
+}
+
+fn searched(seed: u64) -> io::Result<ExitCode> {
+    let mut right = true;
+    for pair in flips::search::pairs(seed) {
+        right &= pair.as_ref().is_some_and(|pair| pair.right());
+        print(pair.map_or("none found\n".to_string(), |pair| pair.to_string()))?;
+    }
+    Ok(verdict(right))
 }
 
 /// `None` for words that are not two numbers.

@@ -1,9 +1,12 @@
 //! Self checks: stored vectors, published and proved values, round trips of every kind, the
 //! cases on the bench, what the host may do wrong, the limit of requests, the numbers skipped, the tick
 //! call, the window of syncs, the ground of fallback, the traps, the script, the frame, the load, the journey and the
-//! which program, what the terminals show and what striking refused frames leaves.
+//! which program, what the terminals show, what striking refused frames leaves and what is read
+//! of bodies with flipped bits.
 
 mod bench;
+mod flips;
+mod flips_form;
 mod ground;
 mod history;
 mod host;
@@ -71,9 +74,7 @@ impl Tally {
 
 pub fn run() -> Tally {
     let mut tally = Tally::default();
-    crc_vectors(&mut tally);
-    published(&mut tally);
-    stuffing_cases(&mut tally);
+    bodies(&mut tally);
     bench::run(&mut tally);
     traps::run(&mut tally);
     rules::run(&mut tally);
@@ -109,6 +110,14 @@ pub fn run() -> Tally {
         }
     }
     tally
+}
+
+fn bodies(tally: &mut Tally) {
+    crc_vectors(tally);
+    published(tally);
+    stuffing_cases(tally);
+    flips::run(tally);
+    flips_form::run(tally);
 }
 
 fn which_program(tally: &mut Tally) {
