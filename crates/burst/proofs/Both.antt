@@ -11,7 +11,7 @@ use Rattle.burst.specs.Promise.{WithConstant, EvenTerms, SeesBursts, See
 use Rattle.burst.proofs.Bursts.{bursts}
 use Rattle.burst.proofs.Odd.{odd}
 
-with-constant : (poly : Poly) → WithConstant (polyOf poly)
+pub with-constant : (poly : Poly) → WithConstant (polyOf poly)
 with-constant Fcs = record { terms = poly-lt Fcs; odd = refl }
 with-constant Safety = record { terms = poly-lt Safety; odd = refl }
 

@@ -20,17 +20,17 @@ use Rattle.burst.specs.Promise.{Checked}
 use Rattle.burst.specs.OnTheLine.{OnTheLine, plain}
 use Rattle.burst.proofs.Both.{bus-bursts, bus-odd}
 
-checked-plain : (a : ℕ) (xs : List ℕ) → Checked (crcOf Fcs) (plain a xs)
+pub checked-plain : (a : ℕ) (xs : List ℕ) → Checked (crcOf Fcs) (plain a xs)
 unfolding fcsOf
 checked-plain a xs =
     record { covered = a ∷ xs; high = crcOf Fcs (a ∷ xs) / 256; low = crcOf Fcs (a ∷ xs) % 256; made = refl; right = omega arith }
 
 -- stuffing is lossless
-unstuffed-same : (xs ys : List ℕ) → stuff xs ≡ stuff ys → xs ≡ ys
+pub unstuffed-same : (xs ys : List ℕ) → stuff xs ≡ stuff ys → xs ≡ ys
 unstuffed-same xs ys e = Option·some-injective xs ys (sym (unstuff-stuff xs) ∙ ap unstuff e ∙ unstuff-stuff ys)
 
 -- what is read is the body of its address and data
-read-plain : (b : ℕ) (ys : List ℕ) → Bytes (b ∷ ys) → readBody (b ∷ stuff ys) .verdict ≡ Valid
+pub read-plain : (b : ℕ) (ys : List ℕ) → Bytes (b ∷ ys) → readBody (b ∷ stuff ys) .verdict ≡ Valid
     → b ∷ ys ≡ plain (readBody (b ∷ stuff ys) .addr) (take (readBody (b ∷ stuff ys) .len) (readBody (b ∷ stuff ys) .bytes))
 unfolding bodyWith
 read-plain b ys h t =
@@ -42,7 +42,7 @@ read-plain b ys h t =
     let rest : stuff ys ≡ stuff (xs ++ (f / 256 ∷ f % 256 ∷ [])) = ap (drop 1) e in
     ap (λ (n : ℕ). n ∷ ys) first ∙ ap (λ (l : List ℕ). r .addr ∷ l) (unstuffed-same ys (xs ++ (f / 256 ∷ f % 256 ∷ [])) rest)
 
-checked-read : (b : ℕ) (ys : List ℕ) → Bytes (b ∷ ys) → readBody (b ∷ stuff ys) .verdict ≡ Valid → Checked (crcOf Fcs) (b ∷ ys)
+pub checked-read : (b : ℕ) (ys : List ℕ) → Bytes (b ∷ ys) → readBody (b ∷ stuff ys) .verdict ≡ Valid → Checked (crcOf Fcs) (b ∷ ys)
 checked-read b ys h t =
     let r = readBody (b ∷ stuff ys) in
     let c = checked-plain (r .addr) (take (r .len) (r .bytes)) in

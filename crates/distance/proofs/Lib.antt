@@ -1,0 +1,13 @@
+pub mod Powers
+pub mod BitFlips
+pub mod Two
+pub mod Both
+pub mod Line
+pub mod Squares
+pub mod Limits
+pub mod WireFlip
+pub mod Wire
+pub mod FourFlips
+pub mod OneFlip
+pub mod OneFlipWrite
+pub mod Promised

@@ -1,0 +1,57 @@
+-- One flipped bit on the wire that passes, found by solving for the addresses: a safe response to a sync whose source ends with 7Eh. That
+-- byte is sent as 7Dh 5Eh; bit 1 of the 7Dh is flipped, and 7Fh 5Eh is read as two bytes. Every field after them stands one byte later:
+-- COM 07h comes to stand at DATL, and the six data bytes with ADD before them are seven. Assumes nothing.
+use mathlib.Core.Path.{_≡_, refl, ap}
+use mathlib.Core.List.{List, [], _∷_, _++_}
+use mathlib.Core.Option.{some}
+use Prim.Native.Nat.{ℕ}
+use native.Mathlib.Omega.{arith}
+use lib.Count.{ones, onesIn}
+use lib.ListN.{length, replicate, getD}
+use Rattle.base.specs.Bytes.{bytesOf, numberAt}
+use Rattle.crc.specs.Crc.{topBit, crcBit, crcBits, crcByte, crcFrom, crcOf}
+use Rattle.stuffing.specs.Stuffing.{meaningOf, unstuffFrom, unstuff}
+use Rattle.wire.specs.Body.{reservedAddr, fcsOf, checkedBody, unstuffedBody, readBody}
+use Rattle.fields.specs.Fields.{laid}
+use Rattle.frame_kinds.specs.Kinds.{dataPlace}
+use Rattle.frame_kinds.specs.declared.kinds.Frame.{Frame}
+use Rattle.frame_kinds.specs.declared.kinds.Frame.the-variants.{SafeResponse}
+use Rattle.frame_forms.specs.Forms.{safeOk, safeRead, safeCom, readSafeResponse}
+use Rattle.frame_reading.specs.Reading.{readTyp, readApp, receivedBody, readFrame, receivedAnswer}
+use Rattle.burst.specs.Damage.{flips}
+use Rattle.distance.specs.Unnoticed.{Unnoticed}
+
+-- the body on the wire, with the byte that was 7Dh
+abbrev body : ℕ → List ℕ
+body x =
+    0xF0 ∷ 0x70 ∷ 0x00 ∷ 0x38 ∷ 0x37 ∷ 0xD2 ∷ 0xCF ∷ x ∷ 0x5E ∷ 0xF8 ∷ 0x07 ∷ 0x07 ∷ 0x06 ∷ 0x80 ∷ replicate 6 0x00
+    ++ (0x80 ∷ 0xE9 ∷ 0xD6 ∷ 0xEB ∷ 0x55 ∷ [])
+
+-- DEST, SRC, CYC, SEQ, COM, DATL, ADD, STAT: SEQ is the complement of CYC as in every answer to a sync; and what is read
+abbrev answer : Frame
+answer = SafeResponse 0x003837 0xD2CF7E 0xF8 0x07 0x07 6 0x80 0x80
+
+abbrev other : Frame
+other = SafeResponse 0x003837 0xD2CF7F 0x5E 0xF8 0x07 7 0x06 0x80
+
+both-read : (receivedAnswer (readFrame (body 0x7D)) ≡ (0, some (0xF0, answer, replicate 6 0x00)))
+    × (receivedAnswer (readFrame (body 0x7F)) ≡ (0, some (0xF0, other, 0x80 ∷ replicate 6 0x00)))
+unfolding readFrame receivedBody readApp readTyp readSafeResponse safeCom safeRead safeOk numberAt dataPlace laid bytesOf readBody unstuffedBody checkedBody fcsOf reservedAddr unstuff unstuffFrom meaningOf crcOf crcFrom crcByte crcBits crcBit topBit
+both-read = (refl, refl)
+
+one : flips (body 0x7D) (body 0x7F) ≡ 1
+unfolding flips ones onesIn
+one = refl
+
+pub response-passes : Unnoticed 1
+response-passes = record {
+  sent = body 0x7D;
+  got = body 0x7F;
+  long = refl;
+  differ = one;
+  was = (0xF0, answer, replicate 6 0x00);
+  now = (0xF0, other, 0x80 ∷ replicate 6 0x00);
+  sent-read = both-read .0;
+  got-read = both-read .1;
+  changed = λ e. let z : _≡_ {A = ℕ} 0x00 0x80 = ap (λ (r : ℕ × Frame × List ℕ). getD (r .2) 0 0) e in omega arith;
+}
