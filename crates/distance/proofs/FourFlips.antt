@@ -3,7 +3,7 @@
 use mathlib.Core.Path.{_≡_, refl, sym, ap, _∙_, subst}
 use mathlib.Core.List.{List, [], _∷_, _++_}
 use mathlib.Core.Option.{some}
-use Prim.Native.Nat.{ℕ}
+use Prim.Native.Nat.{ℕ, _+_}
 use native.Mathlib.Omega.{arith}
 use lib.Count.{ones, onesIn}
 use lib.ListN.{length, replicate, getD}
@@ -21,7 +21,7 @@ use Rattle.frame_forms.specs.Forms.{safeOk, safeRead, safeWriteRequest, readSaf
 use Rattle.frame_reading.specs.Reading.{readTyp, readApp, receivedBody, readFrame, receivedAnswer}
 use Rattle.burst.specs.Damage.{flips}
 use Rattle.burst.specs.OnTheLine.{plain}
-use Rattle.distance.specs.Hamming.{Distance}
+use Rattle.distance.specs.Hamming.{fewest, Distance}
 use Rattle.distance.specs.Unnoticed.{Unnoticed}
 
 -- the outputs from 80h on, of which two may be set
@@ -52,7 +52,7 @@ four : flips (body 0x00 0x00 0x65) (body 0x20 0x40 0xE4) ≡ 4
 unfolding flips ones onesIn
 four = refl
 
-pub four-pass : Unnoticed 4
+pub four-pass : Unnoticed fewest
 four-pass = record {
   sent = body 0x00 0x00 0x65;
   got = body 0x20 0x40 0xE4;
@@ -65,7 +65,7 @@ four-pass = record {
   changed = λ e. let z : _≡_ {A = ℕ} 0x00 0x20 = ap (λ (r : ℕ × Frame × List ℕ). getD (r .2) 0 0) e in omega arith;
 }
 
--- ---- so 5 would be false
+-- ---- so a distance of 5 would be false
 was-sent : plain 0x05 (app 0x00 0x00) ≡ body 0x00 0x00 0x65
 unfolding fcsOf crcOf crcFrom crcByte crcBits crcBit topBit
 was-sent = refl
@@ -78,8 +78,8 @@ valid : readBody (body 0x20 0x40 0xE4) .verdict ≡ Valid
 unfolding readBody unstuffedBody checkedBody fcsOf reservedAddr unstuff unstuffFrom meaningOf crcOf crcFrom crcByte crcBits crcBit topBit
 valid = refl
 
-pub not-five : Distance 5 → ⊥
-not-five d =
+pub no-more : Distance (fewest + 1) → ⊥
+no-more d =
     d 0x05 0x05 (app 0x00 0x00) (rest 0x20 0x40 0xE4) (subst Bytes (sym was-sent) (bytes-written (body 0x00 0x00 0x65) refl))
     (bytes-written (body 0x20 0x40 0xE4) refl) (ap length was-sent) (omega (arith, flipped)) (omega (arith, flipped))
     (ap (λ (s : List ℕ). readBody (0x05 ∷ s) .verdict) unstuffed ∙ valid)

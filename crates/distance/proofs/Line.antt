@@ -15,7 +15,7 @@ use Rattle.laying.proofs.BodyBothWays.{read-then-laid}
 use Rattle.burst.specs.Damage.{flips}
 use Rattle.burst.specs.OnTheLine.{plain}
 use Rattle.burst.proofs.Line.{checked-plain, read-plain, checked-read, on-the-line}
-use Rattle.distance.specs.Hamming.{Distance}
+use Rattle.distance.specs.Hamming.{fewest, Distance}
 use Rattle.distance.proofs.Both.{bus-two}
 
 -- address, data and FCS
@@ -32,7 +32,7 @@ module _ (b : ℕ) (ys : List ℕ) (h : Bytes (b ∷ ys)) (t : readBody (b ∷ s
       omega (arith, ap length (read-plain b ys h t), plain-length (r .addr) xs, length-take (r .len) (r .bytes))
 
 module _ (a b : ℕ) (xs ys : List ℕ) (h : Bytes (plain a xs)) (g : Bytes (b ∷ ys)) (l : length (plain a xs) ≡ length (b ∷ ys)) (t : readBody (b ∷ stuff ys) .verdict ≡ Valid) where
-  flipped : (n : ℕ) → flips (plain a xs) (b ∷ ys) ≡ n → 0 < n → n < 4 → ⊥
+  flipped : (n : ℕ) → flips (plain a xs) (b ∷ ys) ≡ n → 0 < n → n < fewest → ⊥
   flipped zero f u v = omega arith
   flipped (suc zero) f u v = on-the-line .odd a b xs ys h g l (ap (λ (n : ℕ). n % 2) f) t
   flipped (suc (suc zero)) f u v =
@@ -40,5 +40,5 @@ module _ (a b : ℕ) (xs ys : List ℕ) (h : Bytes (plain a xs)) (g : Bytes (b �
   flipped (suc (suc (suc zero))) f u v = on-the-line .odd a b xs ys h g l (ap (λ (n : ℕ). n % 2) f) t
   flipped (suc (suc (suc (suc n)))) f u v = omega arith
 
-pub distance-four : Distance 4
-distance-four a b xs ys h g l u v t = flipped a b xs ys h g l t (flips (plain a xs) (b ∷ ys)) refl u v
+pub few-refused : Distance fewest
+few-refused a b xs ys h g l u v t = flipped a b xs ys h g l t (flips (plain a xs) (b ∷ ys)) refl (omega arith) (omega arith)

@@ -5,8 +5,8 @@ use Rattle.distance.specs.OnTheWire.{OnTheWire}
 use Rattle.distance.proofs.Two.{two}
 use Rattle.distance.proofs.Both.{bus-two}
 use Rattle.distance.proofs.Limits.{missed, fcs-limit, safety-limit}
-use Rattle.distance.proofs.Line.{distance-four}
-use Rattle.distance.proofs.FourFlips.{not-five, four-pass}
+use Rattle.distance.proofs.Line.{few-refused}
+use Rattle.distance.proofs.FourFlips.{no-more, four-pass}
 use Rattle.distance.proofs.Wire.{other-length}
 use Rattle.distance.proofs.OneFlip.{response-passes}
 use Rattle.distance.proofs.OneFlipWrite.{write-passes}
@@ -15,7 +15,7 @@ pub promised : Promised
 promised = record { two = two; missed = missed; bus-two = bus-two; fcs-limit = fcs-limit; safety-limit = safety-limit }
 
 pub hamming : Hamming
-hamming = record { four = distance-four; not-five = not-five; four-pass = four-pass }
+hamming = record { refused = few-refused; no-more = no-more; passed = four-pass }
 
 pub on-the-wire : OnTheWire
 on-the-wire = record { other-length = other-length; response-passes = response-passes; write-passes = write-passes }

@@ -1,6 +1,6 @@
 -- One flipped bit on the wire: if the body is read, an escape was made or broken. Assumes nothing.
 use mathlib.Core.Path.{_≡_, refl, sym, ap, ap₂, _∙_, subst}
-use mathlib.Core.Logic.{_⊎_, inl, inr}
+use mathlib.Core.Logic.{inl, inr}
 use mathlib.Core.List.{List, [], _∷_, _++_}
 use mathlib.Core.Option.{none, some, Option·some-injective}
 use Prim.Native.Nat.{ℕ, suc, _+_, _/_, _%_}
@@ -19,7 +19,8 @@ use Rattle.laying.proofs.LineBytes.{unstuffed-bytes}
 use Rattle.laying.proofs.BodyBothWays.{read-then-laid}
 use Rattle.burst.specs.Damage.{flips}
 use Rattle.burst.specs.OnTheLine.{plain}
-use Rattle.distance.proofs.Line.{plain-length, distance-four}
+use Rattle.distance.specs.OnTheWire.{ByOne, OtherLength}
+use Rattle.distance.proofs.Line.{plain-length, few-refused}
 use Rattle.distance.proofs.WireFlip.{Changed, body-flip}
 
 -- what is answered with 0 is valid, and the body of what it is read as
@@ -49,17 +50,16 @@ abbrev checked : ℕ → List ℕ → List ℕ
 checked a xs = xs ++ (fcsOf a xs / 256 ∷ fcsOf a xs % 256 ∷ [])
 
 module _ (a b : ℕ) (xs ys : List ℕ) (h : Bytes (plain a xs)) (g : Bytes (b ∷ stuff (checked b ys))) (t : readBody (b ∷ stuff (checked b ys)) .verdict ≡ Valid) where
-  lengths : Changed (plain a xs) (plain b ys) → (length ys ≡ length xs + 1) ⊎ (length ys + 1 ≡ length xs)
+  lengths : Changed (plain a xs) (plain b ys) → ByOne (length xs) (length ys)
   lengths (inl (l, f)) =
       absurd
-      (distance-four a b xs (checked b ys) h
+      (few-refused a b xs (checked b ys) h
       (bytes-cons b (checked b ys) (g 0) (unstuffed-bytes (checked b ys) (bytes-tail b (stuff (checked b ys)) g)))
       l (omega arith) (omega arith) t)
   lengths (inr (inl l)) = inl (omega (arith, plain-length a xs, plain-length b ys))
   lengths (inr (inr l)) = inr (omega (arith, plain-length a xs, plain-length b ys))
 
-pub other-length : (a b : ℕ) (xs ys got : List ℕ) → Bytes (plain a xs) → Bytes got → length (bodyOf a xs) ≡ length got
-    → flips (bodyOf a xs) got ≡ 1 → answerToBody got ≡ (0, some (b, ys)) → (length ys ≡ length xs + 1) ⊎ (length ys + 1 ≡ length xs)
+pub other-length : OtherLength
 unfolding bodyWith
 other-length a b xs ys got h g l f e =
     let q = answered-body b ys got g e in

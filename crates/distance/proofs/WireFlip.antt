@@ -13,6 +13,7 @@ use Rattle.stuffing.specs.Stuffing.{stuffByte, stuff}
 use Rattle.stuffing.proofs.StuffingLaws.{byte-cases, byte-other, byte-least}
 use Rattle.burst.specs.Damage.{flips}
 use Rattle.burst.proofs.Line.{unstuffed-same}
+use Rattle.distance.specs.OnTheWire.{ByOne}
 use Rattle.distance.proofs.BitFlips.{xor-none}
 
 -- ---- no flips
@@ -41,7 +42,7 @@ self-flips (x ∷ xs) = omega (arith, self-byte x, self-flips xs)
 -- ---- one flip
 -- what it was before stuffing
 abbrev pub Changed : List ℕ → List ℕ → Type 0
-Changed xs ys = ((length xs ≡ length ys) × (flips xs ys ≡ 1)) ⊎ ((length ys ≡ length xs + 1) ⊎ (length ys + 1 ≡ length xs))
+Changed xs ys = ((length xs ≡ length ys) × (flips xs ys ≡ 1)) ⊎ ByOne (length xs) (length ys)
 
 -- the same byte before both
 behind : (x y : ℕ) (xs ys : List ℕ) → ones (bitXor x y) ≡ 0 → Changed xs ys → Changed (x ∷ xs) (y ∷ ys)
@@ -118,12 +119,12 @@ module _ (x y : ℕ) (xs ys : List ℕ) (ih : length (stuff xs) ≡ length (stuf
       (λ n m. made 0x5D m (λ e. omega arith) (λ e. omega arith)))
       (λ u v.
       byte-cases (λ s. length (x ∷ stuff xs) ≡ length (s ++ stuff ys) → flips (x ∷ stuff xs) (s ++ stuff ys) ≡ 1 → Changed (x ∷ xs) (y ∷ ys)) y
-      (λ q l f. inr (inr (sym (lengthened (broken x 0x5E xs ys v (λ e. omega arith) (λ e. omega arith) l f)))))
-      (λ q l f. inr (inr (sym (lengthened (broken x 0x5D xs ys v (λ e. omega arith) (λ e. omega arith) l f)))))
+      (λ q l f. shorter (broken x 0x5E xs ys v (λ e. omega arith) (λ e. omega arith) l f))
+      (λ q l f. shorter (broken x 0x5D xs ys v (λ e. omega arith) (λ e. omega arith) l f))
       (λ n m. unstuffed-heads x y xs ys ih))
     where
-      lengthened : length xs ≡ length ys + 1 → length (x ∷ xs) ≡ length (y ∷ ys) + 1
-      lengthened e = omega arith
+      shorter : length xs ≡ length ys + 1 → Changed (x ∷ xs) (y ∷ ys)
+      shorter e = inr (inr (omega arith))
 
       made : (e : ℕ) → (y ≡ 0x7D → ⊥) → (e ≡ 0x7E → ⊥) → (e ≡ 0x7D → ⊥) → length (0x7D ∷ e ∷ stuff xs) ≡ length (y ∷ stuff ys)
           → flips (0x7D ∷ e ∷ stuff xs) (y ∷ stuff ys) ≡ 1 → Changed (x ∷ xs) (y ∷ ys)

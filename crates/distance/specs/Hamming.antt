@@ -2,7 +2,7 @@
 -- read, whichever of the numbers 1 to 5 refuses it. Four flipped bits can pass. Assumes nothing.
 use mathlib.Core.Path.{_≡_}
 use mathlib.Core.List.{List, _∷_}
-use Prim.Native.Nat.{ℕ, _<_}
+use Prim.Native.Nat.{ℕ, _+_, _<_}
 use lib.ListN.{length}
 use Rattle.base.specs.Bytes.{Bytes}
 use Rattle.stuffing.specs.Stuffing.{stuff}
@@ -12,6 +12,10 @@ use Rattle.burst.specs.Damage.{flips}
 use Rattle.burst.specs.OnTheLine.{plain}
 use Rattle.distance.specs.Unnoticed.{Unnoticed}
 
+-- the fewest flipped bits that can pass
+abbrev pub fewest : ℕ
+fewest = 4
+
 -- what was sent is the body for address a and data xs; what arrived in its place is address b and, unstuffed, ys; fewer than n bits differ
 abbrev pub Distance : ℕ → Type 0
 Distance n =
@@ -19,7 +23,7 @@ Distance n =
     → 0 < flips (plain a xs) (b ∷ ys) → flips (plain a xs) (b ∷ ys) < n → readBody (b ∷ stuff ys) .verdict ≡ Valid → ⊥
 
 pub record Hamming : Type 0 where
-  pub four : Distance 4
-  -- and not 5: four flipped bits of a frame, with both CRCs right before and after
-  pub not-five : Distance 5 → ⊥
-  pub four-pass : Unnoticed 4
+  pub refused : Distance fewest
+  -- and no more: so many flipped bits of a frame can pass, with both CRCs right before and after
+  pub no-more : Distance (fewest + 1) → ⊥
+  pub passed : Unnoticed fewest

@@ -13,11 +13,19 @@ use Rattle.burst.specs.Damage.{flips}
 use Rattle.burst.specs.OnTheLine.{plain}
 use Rattle.distance.specs.Unnoticed.{Unnoticed}
 
+-- n is one more than m, or one less
+abbrev pub ByOne : ℕ → ℕ → Type 0
+ByOne m n = (n ≡ m + 1) ⊎ (n + 1 ≡ m)
+
+-- what was sent is the body for address a and data xs; what arrived differs from it in one bit and is read as address b and data ys:
+-- then the data has one byte more, or one byte less
+abbrev pub OtherLength : Type 0
+OtherLength =
+    (a b : ℕ) (xs ys got : List ℕ) → Bytes (plain a xs) → Bytes got → length (bodyOf a xs) ≡ length got
+    → flips (bodyOf a xs) got ≡ 1 → answerToBody got ≡ (0, some (b, ys)) → ByOne (length xs) (length ys)
+
 pub record OnTheWire : Type 0 where
-  -- what was sent is the body for address a and data xs; what arrived differs from it in one bit and is read as address b and data ys:
-  -- then the data has one byte more, or one byte less
-  pub other-length : (a b : ℕ) (xs ys got : List ℕ) → Bytes (plain a xs) → Bytes got → length (bodyOf a xs) ≡ length got
-      → flips (bodyOf a xs) got ≡ 1 → answerToBody got ≡ (0, some (b, ys)) → (length ys ≡ length xs + 1) ⊎ (length ys + 1 ≡ length xs)
+  pub other-length : OtherLength
   -- and that happens, with both CRCs right before and after: to a response, and to a write
   pub response-passes : Unnoticed 1
   pub write-passes : Unnoticed 1
