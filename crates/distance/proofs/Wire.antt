@@ -21,7 +21,7 @@ use Rattle.burst.specs.Damage.{flips}
 use Rattle.burst.specs.OnTheLine.{plain}
 use Rattle.distance.specs.OnTheWire.{ByOne, OtherLength}
 use Rattle.distance.proofs.Line.{plain-length, few-refused}
-use Rattle.distance.proofs.WireFlip.{Changed, body-flip}
+use Rattle.distance.proofs.WireFlip.{Changed, broken-length, body-flip}
 
 -- what is answered with 0 is valid, and the body of what it is read as
 module _ (b : ℕ) (ys : List ℕ) where
@@ -56,8 +56,8 @@ module _ (a b : ℕ) (xs ys : List ℕ) (h : Bytes (plain a xs)) (g : Bytes (b �
       (few-refused a b xs (checked b ys) h
       (bytes-cons b (checked b ys) (g 0) (unstuffed-bytes (checked b ys) (bytes-tail b (stuff (checked b ys)) g)))
       l (omega arith) (omega arith) t)
-  lengths (inr (inl l)) = inl (omega (arith, plain-length a xs, plain-length b ys))
-  lengths (inr (inr l)) = inr (omega (arith, plain-length a xs, plain-length b ys))
+  lengths (inr (inl q)) = inl (omega (arith, plain-length a xs, plain-length b ys, broken-length (plain a xs) (plain b ys) q))
+  lengths (inr (inr q)) = inr (omega (arith, plain-length a xs, plain-length b ys, broken-length (plain b ys) (plain a xs) q))
 
 pub other-length : OtherLength
 unfolding bodyWith
