@@ -10,4 +10,8 @@ pub mod Wire
 pub mod FourFlips
 pub mod OneFlip
 pub mod OneFlipWrite
+pub mod Shifted
+pub mod WithData
+pub mod DataForms
+pub mod FrameFlip
 pub mod Promised

@@ -8,6 +8,7 @@ use Rattle.distance.proofs.Limits.{missed, fcs-limit, safety-limit}
 use Rattle.distance.proofs.Line.{few-refused}
 use Rattle.distance.proofs.FourFlips.{no-more, four-pass}
 use Rattle.distance.proofs.Wire.{other-length}
+use Rattle.distance.proofs.FrameFlip.{other-frame}
 use Rattle.distance.proofs.OneFlip.{response-passes}
 use Rattle.distance.proofs.OneFlipWrite.{write-passes}
 
@@ -18,4 +19,4 @@ pub hamming : Hamming
 hamming = record { refused = few-refused; no-more = no-more; passed = four-pass }
 
 pub on-the-wire : OnTheWire
-on-the-wire = record { other-length = other-length; response-passes = response-passes; write-passes = write-passes }
+on-the-wire = record { other-length = other-length; other-frame = other-frame; response-passes = response-passes; write-passes = write-passes }

@@ -1,6 +1,6 @@
 -- One flipped bit on the wire: if the body is read, an escape was made or broken. Assumes nothing.
 use mathlib.Core.Path.{_≡_, refl, sym, ap, ap₂, _∙_, subst}
-use mathlib.Core.Logic.{inl, inr}
+use mathlib.Core.Logic.{_⊎_, inl, inr}
 use mathlib.Core.List.{List, [], _∷_, _++_}
 use mathlib.Core.Option.{none, some, Option·some-injective}
 use Prim.Native.Nat.{ℕ, suc, _+_, _/_, _%_}
@@ -20,8 +20,8 @@ use Rattle.laying.proofs.BodyBothWays.{read-then-laid}
 use Rattle.burst.specs.Damage.{flips}
 use Rattle.burst.specs.OnTheLine.{plain}
 use Rattle.distance.specs.OnTheWire.{ByOne, OtherLength}
-use Rattle.distance.proofs.Line.{plain-length, few-refused}
-use Rattle.distance.proofs.WireFlip.{Changed, broken-length, body-flip}
+use Rattle.distance.proofs.Line.{few-refused}
+use Rattle.distance.proofs.WireFlip.{Broken, broken-length, body-flip}
 
 -- what is answered with 0 is valid, and the body of what it is read as
 module _ (b : ℕ) (ys : List ℕ) where
@@ -46,22 +46,39 @@ module _ (b : ℕ) (ys : List ℕ) where
       (q .0, read-then-laid s h (q .0) .laid ∙ q .1)
 
 -- data and FCS
-abbrev checked : ℕ → List ℕ → List ℕ
+abbrev pub checked : ℕ → List ℕ → List ℕ
 checked a xs = xs ++ (fcsOf a xs / 256 ∷ fcsOf a xs % 256 ∷ [])
 
-module _ (a b : ℕ) (xs ys : List ℕ) (h : Bytes (plain a xs)) (g : Bytes (b ∷ stuff (checked b ys))) (t : readBody (b ∷ stuff (checked b ys)) .verdict ≡ Valid) where
-  lengths : Changed (plain a xs) (plain b ys) → ByOne (length xs) (length ys)
-  lengths (inl (l, f)) =
-      absurd
-      (few-refused a b xs (checked b ys) h
-      (bytes-cons b (checked b ys) (g 0) (unstuffed-bytes (checked b ys) (bytes-tail b (stuff (checked b ys)) g)))
-      l (omega arith) (omega arith) t)
-  lengths (inr (inl q)) = inl (omega (arith, plain-length a xs, plain-length b ys, broken-length (plain a xs) (plain b ys) q))
-  lengths (inr (inr q)) = inr (omega (arith, plain-length a xs, plain-length b ys, broken-length (plain b ys) (plain a xs) q))
+checked-length : (a : ℕ) (xs : List ℕ) → length (checked a xs) ≡ length xs + 2
+checked-length a xs = length-append xs (fcsOf a xs / 256 ∷ fcsOf a xs % 256 ∷ [])
+
+pub unstuffed-body : (a : ℕ) (xs : List ℕ) → Bytes (bodyOf a xs) → Bytes (plain a xs)
+unfolding bodyWith
+unstuffed-body a xs h =
+    bytes-cons a (checked a xs) (h 0) (unstuffed-bytes (checked a xs) (bytes-tail a (stuff (checked a xs)) h))
+
+-- two bodies that differ in one bit, of which the second is read: an escape of the one is broken in the other
+pub escape-lost : (a b : ℕ) (xs ys : List ℕ) → Bytes (plain a xs) → Bytes (bodyOf b ys) → length (bodyOf a xs) ≡ length (bodyOf b ys)
+    → flips (bodyOf a xs) (bodyOf b ys) ≡ 1 → readBody (bodyOf b ys) .verdict ≡ Valid → Broken (checked a xs) (checked b ys) ⊎ Broken (checked b ys) (checked a xs)
+unfolding bodyWith
+escape-lost a b xs ys h g l f t = by (body-flip a b (checked a xs) (checked b ys) l f)
+  where
+    by : ((length (plain a xs) ≡ length (plain b ys)) × (flips (plain a xs) (plain b ys) ≡ 1)) ⊎ (Broken (checked a xs) (checked b ys) ⊎ Broken (checked b ys) (checked a xs))
+        → Broken (checked a xs) (checked b ys) ⊎ Broken (checked b ys) (checked a xs)
+    by (inl (m, n)) =
+        absurd (few-refused a b xs (checked b ys) h (unstuffed-body b ys g) m (omega arith) (omega arith) t)
+    by (inr w) = w
+
+pub by-one : (a b : ℕ) (xs ys : List ℕ) → Broken (checked a xs) (checked b ys) → length ys ≡ length xs + 1
+by-one a b xs ys w = omega (arith, checked-length a xs, checked-length b ys, broken-length (checked a xs) (checked b ys) w)
 
 pub other-length : OtherLength
-unfolding bodyWith
 other-length a b xs ys got h g l f e =
     let q = answered-body b ys got g e in
-    lengths a b xs ys h (subst Bytes (q .1) g) (subst (λ (s : List ℕ). readBody s .verdict ≡ Valid) (q .1) (q .0))
-    (body-flip a b (checked a xs) (checked b ys) (l ∙ ap length (q .1)) (ap (flips (bodyOf a xs)) (sym (q .1)) ∙ f))
+    by
+    (escape-lost a b xs ys h (subst Bytes (q .1) g) (l ∙ ap length (q .1)) (ap (flips (bodyOf a xs)) (sym (q .1)) ∙ f)
+    (subst (λ (s : List ℕ). readBody s .verdict ≡ Valid) (q .1) (q .0)))
+  where
+    by : Broken (checked a xs) (checked b ys) ⊎ Broken (checked b ys) (checked a xs) → ByOne (length xs) (length ys)
+    by (inl w) = inl (by-one a b xs ys w)
+    by (inr w) = inr (sym (by-one b a ys xs w))

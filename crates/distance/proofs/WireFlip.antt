@@ -75,7 +75,7 @@ broken-behind x y short long q b = record {
 
 -- ---- one flip
 -- what it was before stuffing
-abbrev pub Changed : List ℕ → List ℕ → Type 0
+abbrev Changed : List ℕ → List ℕ → Type 0
 Changed xs ys = ((length xs ≡ length ys) × (flips xs ys ≡ 1)) ⊎ (Broken xs ys ⊎ Broken ys xs)
 
 -- the same byte before both
@@ -89,17 +89,21 @@ behind x y xs ys q (inr (inr b)) = inr (inr (broken-behind y x ys xs (sym q) b))
 same-rest : (xs ys : List ℕ) → length (stuff xs) ≡ length (stuff ys) → flips (stuff xs) (stuff ys) ≡ 0 → xs ≡ ys
 same-rest xs ys l f = unstuffed-same xs ys (same-bytes (stuff xs) (stuff ys) l f)
 
+-- a flipped bit before the same bytes
+flipped-head : (x y : ℕ) (xs ys : List ℕ) → ones (bitXor x y) ≡ 1 → xs ≡ ys → (length (x ∷ xs) ≡ length (y ∷ ys)) × (flips (x ∷ xs) (y ∷ ys) ≡ 1)
+unfolding flips
+flipped-head x y xs ys e s =
+    (ap (λ (l : List ℕ). suc (length l)) s, ap₂ _+_ e (ap (λ (l : List ℕ). flips l ys) s ∙ self-flips ys))
+
 module _ (x y : ℕ) (xs ys : List ℕ) (ih : length (stuff xs) ≡ length (stuff ys) → flips (stuff xs) (stuff ys) ≡ 1 → Changed xs ys) where
   -- a byte of each that is not stuffed
-  pub unstuffed-heads : length (x ∷ stuff xs) ≡ length (y ∷ stuff ys) → flips (x ∷ stuff xs) (y ∷ stuff ys) ≡ 1 → Changed (x ∷ xs) (y ∷ ys)
+  unstuffed-heads : length (x ∷ stuff xs) ≡ length (y ∷ stuff ys) → flips (x ∷ stuff xs) (y ∷ stuff ys) ≡ 1 → Changed (x ∷ xs) (y ∷ ys)
   unfolding flips
   unstuffed-heads l f = by (ones (bitXor x y)) refl
     where
       by : (o : ℕ) → ones (bitXor x y) ≡ o → Changed (x ∷ xs) (y ∷ ys)
       by zero e = behind x y xs ys (same-byte x y e) (ih (omega arith) (omega arith))
-      by (suc zero) e =
-          let s : xs ≡ ys = same-rest xs ys (omega arith) (omega arith) in
-          inl (ap (λ (l : List ℕ). suc (length l)) s, ap₂ _+_ e (ap (λ (l : List ℕ). flips l ys) s ∙ self-flips ys))
+      by (suc zero) e = inl (flipped-head x y xs ys e (same-rest xs ys (omega arith) (omega arith)))
       by (suc (suc o)) e = absurd (omega arith)
 
 -- a byte that is not stuffed against an escape: the flipped bit is between it and 7Dh, and the byte after the escape is one of the others
@@ -179,12 +183,23 @@ module _ (x y : ℕ) (xs ys : List ℕ) (ih : length (stuff xs) ≡ length (stuf
       (λ q. lost 0x5D q (omega arith) (omega arith) n m)
       (λ u v. unstuffed-heads x y xs ys ih))
 
-pub stuffed-flip : (xs ys : List ℕ) → length (stuff xs) ≡ length (stuff ys) → flips (stuff xs) (stuff ys) ≡ 1 → Changed xs ys
+stuffed-flip : (xs ys : List ℕ) → length (stuff xs) ≡ length (stuff ys) → flips (stuff xs) (stuff ys) ≡ 1 → Changed xs ys
 unfolding stuff flips
 stuffed-flip [] ys l f = absurd (omega arith)
 stuffed-flip (x ∷ xs) [] l f = absurd (omega (arith, byte-least x, length-append (stuffByte x) (stuff xs)))
 stuffed-flip (x ∷ xs) (y ∷ ys) l f = heads x y xs ys (stuffed-flip xs ys) l f
 
--- the same with an address before the stuffed bytes
-pub body-flip : (a b : ℕ) (xs ys : List ℕ) → length (a ∷ stuff xs) ≡ length (b ∷ stuff ys) → flips (a ∷ stuff xs) (b ∷ stuff ys) ≡ 1 → Changed (a ∷ xs) (b ∷ ys)
-body-flip a b xs ys = unstuffed-heads a b xs ys (stuffed-flip xs ys)
+-- with an address before the stuffed bytes, which is not stuffed: one flipped bit in all, or an escape of the others
+pub body-flip : (a b : ℕ) (xs ys : List ℕ) → length (a ∷ stuff xs) ≡ length (b ∷ stuff ys) → flips (a ∷ stuff xs) (b ∷ stuff ys) ≡ 1
+    → ((length (a ∷ xs) ≡ length (b ∷ ys)) × (flips (a ∷ xs) (b ∷ ys) ≡ 1)) ⊎ (Broken xs ys ⊎ Broken ys xs)
+unfolding flips
+body-flip a b xs ys l f = by (ones (bitXor a b)) refl
+  where
+    in-rest : ones (bitXor a b) ≡ 0 → Changed xs ys → ((length (a ∷ xs) ≡ length (b ∷ ys)) × (flips (a ∷ xs) (b ∷ ys) ≡ 1)) ⊎ (Broken xs ys ⊎ Broken ys xs)
+    in-rest e (inl (m, n)) = inl (ap suc m, omega arith)
+    in-rest e (inr w) = inr w
+
+    by : (o : ℕ) → ones (bitXor a b) ≡ o → ((length (a ∷ xs) ≡ length (b ∷ ys)) × (flips (a ∷ xs) (b ∷ ys) ≡ 1)) ⊎ (Broken xs ys ⊎ Broken ys xs)
+    by zero e = in-rest e (stuffed-flip xs ys (omega arith) (omega arith))
+    by (suc zero) e = inl (flipped-head a b xs ys e (same-rest xs ys (omega arith) (omega arith)))
+    by (suc (suc o)) e = absurd (omega arith)
