@@ -1,15 +1,14 @@
 -- Flipped bits, counted over lists of bits: as many as over the bytes. Assumes nothing.
 use mathlib.Core.Path.{_≡_, refl, sym, ap, ap₂, _∙_}
 use mathlib.Core.List.{List, [], _∷_, _++_}
-use Prim.Native.Nat.{ℕ, zero, suc, _+_, _/_, _%_, _^_, _<_}
+use Prim.Native.Nat.{ℕ, suc, _+_, _/_, _%_, _^_, _<_}
 use native.Mathlib.Omega.{arith}
-use native.Mathlib.Nat.{div-eq-of-lt}
 use lib.Bits.{bitXor, xor-shr, xor-mod, xor-self, xor-lt}
 use lib.Count.{ones, onesIn, ones-step}
 use lib.ListN.{length}
 use Rattle.base.specs.Bytes.{Bytes}
 use Rattle.base.proofs.Xor.{xor-off}
-use Rattle.base.proofs.BitList.{Bits, byteBits, bitsOf}
+use Rattle.base.proofs.BitList.{byteBits, bitsOf}
 use Rattle.burst.specs.Damage.{flips}
 
 -- in how many bits two lists of bits differ

@@ -1,6 +1,6 @@
 -- The frames that are read, by what their length is: fixed by TYP, or by COM and DATL. Assumes nothing.
-use mathlib.Core.Path.{_≡_, refl, sym, ap, _∙_, subst}
-use mathlib.Core.Bool.{Bool, true, false, _&&_, _||_}
+use mathlib.Core.Path.{_≡_, refl, subst}
+use mathlib.Core.Bool.{Bool, true, false, _||_}
 use mathlib.Core.List.{List}
 use Prim.Native.Nat.{ℕ, _+_, _%_, _<_, _≤_}
 use native.Mathlib.Omega.{arith}
@@ -100,7 +100,7 @@ module _ (s : List ℕ) (f : Frame) where
       (λ c r. safe-says f _ s _ r (λ p q g. laid-with safeRequests s f 0x88 c (eqb-true (length s) 14 p) (omega arith) (λ h n. never h)))
       (λ r. either f (numberAt s 9 1) 0x77 _ _ r
       (λ c r. safe-says f _ s _ r (λ p q g.
-      laid-with safeRequests s f 0x77 c (eqb-true (length s) (14 + numberAt s 10 1) p) (omega arith) (λ h n. subst CanPass g n)))
+      laid-with safeRequests s f 0x77 c (eqb-true (length s) (14 + numberAt s 10 1) p) (omega arith) (λ h n. subst CanPass g (omega arith))))
       (not-form f))
 
   pub plain-request : readPlainRequest s ≡ Valid f → Laid plainRequests s f
@@ -109,7 +109,7 @@ module _ (s : List ℕ) (f : Frame) where
       (λ c r. plain-says f _ _ r (λ p g. laid-with plainRequests s f 0x02 c (eqb-true (length s) 5 p) (omega arith) (λ h n. never h)))
       (λ r. either f (numberAt s 2 1) 0x01 _ _ r
       (λ c r. plain-says f _ _ r (λ p g.
-      laid-with plainRequests s f 0x01 c (eqb-true (length s) (5 + numberAt s 3 1) p) (omega arith) (λ h n. subst CanPass g n)))
+      laid-with plainRequests s f 0x01 c (eqb-true (length s) (5 + numberAt s 3 1) p) (omega arith) (λ h n. subst CanPass g (omega arith))))
       (not-form f))
 
   pub safe-response : readSafeResponse s ≡ Valid f → Laid safeResponses s f
@@ -118,8 +118,8 @@ module _ (s : List ℕ) (f : Frame) where
       let w = and-parts (safeCom (numberAt s 9 1) (numberAt s 10 1)) (eqb (length s) (15 + numberAt s 10 1)) p in
       let z : length s ≡ 15 + numberAt s 10 1 = eqb-true (length s) (15 + numberAt s 10 1) (w .1) in
       safe-com (numberAt s 9 1) (numberAt s 10 1) (w .0)
-      (λ c. laid-with safeResponses s f 0x07 c z (omega arith) (λ h n. subst CanPass g n))
-      (λ c. laid-with safeResponses s f 0x70 c z (omega arith) (λ h n. subst CanPass g n))
+      (λ c. laid-with safeResponses s f 0x07 c z (omega arith) (λ h n. subst CanPass g (omega arith)))
+      (λ c. laid-with safeResponses s f 0x70 c z (omega arith) (λ h n. subst CanPass g (omega arith)))
       (λ c o. laid-with safeResponses s f 0xAA c (omega arith) (omega arith) (λ h n. never h))
       (λ c o. laid-with safeResponses s f 0x55 c (omega arith) (omega arith) (λ h n. never h)))
 
@@ -127,12 +127,12 @@ module _ (s : List ℕ) (f : Frame) where
   unfolding readPlainResponse
   plain-response e = either f (numberAt s 2 1) 0x01 _ _ e
       (λ c r. plain-says f _ _ r (λ p g.
-      laid-with plainResponses s f 0x01 c (eqb-true (length s) (6 + numberAt s 3 1) p) (omega arith) (λ h n. subst CanPass g n)))
+      laid-with plainResponses s f 0x01 c (eqb-true (length s) (6 + numberAt s 3 1) p) (omega arith) (λ h n. subst CanPass g (omega arith))))
       (λ r. plain-says f _ _ r (λ p g.
       let w = and-parts (plainCom (numberAt s 2 1) (numberAt s 3 1)) (eqb (length s) (5 + numberAt s 3 1)) p in
       let z : length s ≡ 5 + numberAt s 3 1 = eqb-true (length s) (5 + numberAt s 3 1) (w .1) in
       plain-com (numberAt s 2 1) (numberAt s 3 1) (w .0)
-      (λ c. laid-with plainResponses s f 0x02 c z (omega arith) (λ h n. subst CanPass g n))
+      (λ c. laid-with plainResponses s f 0x02 c z (omega arith) (λ h n. subst CanPass g (omega arith)))
       (λ c o. laid-with plainResponses s f 0xAA c (omega arith) (omega arith) (λ h n. never h))
       (λ c o. laid-with plainResponses s f 0x55 c (omega arith) (omega arith) (λ h n. never h))))
 

@@ -1,16 +1,13 @@
 -- One flipped bit on the wire between two frames: TYP is the same, and so both have a length that COM and DATL say. Assumes nothing.
-use mathlib.Core.Path.{_≡_, refl, sym, ap, ap₂, _∙_, subst}
+use mathlib.Core.Path.{_≡_, sym, ap, ap₂, _∙_, subst}
 use mathlib.Core.Logic.{_⊎_, inl, inr}
-use mathlib.Core.Bool.{Bool, _||_}
 use mathlib.Core.List.{List, [], _∷_, _++_}
 use Prim.Native.Nat.{ℕ, suc, _+_, _/_, _%_, _<_, _≤_}
 use native.Mathlib.Omega.{arith}
 use native.Mathlib.Nat.{zero-add, add-zero}
-use lib.Dec.{eqb}
 use lib.ListN.{length, getD, List·getD-append}
 use Rattle.base.specs.Bytes.{Bytes, numberAt}
 use Rattle.wire.specs.Body.{fcsOf, readBody}
-use Rattle.wire.specs.declared.Body.{Body}
 use Rattle.wire.specs.declared.Verdict.the-variants as verdict
 use Rattle.laying.specs.Laying.{bodyOf}
 use Rattle.laying.proofs.BodyBothWays.{read-then-laid}

@@ -6,7 +6,7 @@ use Prim.Native.Nat.{ℕ, zero, suc, _+_, _*_, _%_, _^_, _<_}
 use native.Mathlib.Omega.{arith}
 use native.Mathlib.Nat.{zero-add}
 use lib.Dec.{lit<}
-use lib.Bits.{bitXor, xor-zero-l, xor-zero-r, xor-self}
+use lib.Bits.{bitXor, xor-zero-r}
 use lib.Count.{ones, onesIn}
 use lib.ListN.{length, replicate, length-append, length-replicate}
 use Rattle.crc.specs.Crc.{polyOf, crcStart, topBit, crcBit, crcBits, crcByte, crcFrom, crcOf}

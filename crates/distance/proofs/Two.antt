@@ -1,10 +1,10 @@
 -- Two flipped bits are detected, for every polynomial whose constant term is 1 and whose powers of x do not return in time. After
 -- the first flipped bit the two registers differ by x^16, and after k more bits by x^(16 + k). The second one makes them
 -- the same only if that is x^16 again; and registers that differ stay apart over the bits after it. Assumes nothing.
-use mathlib.Core.Path.{_≡_, refl, sym, ap, ap₂, _∙_, subst}
+use mathlib.Core.Path.{_≡_, refl, sym, ap, _∙_}
 use mathlib.Core.Bool.{true}
 use mathlib.Core.List.{List, [], _∷_}
-use Prim.Native.Nat.{ℕ, zero, suc, _+_, _*_, _/_, _%_, _^_, _<_, _≤_}
+use Prim.Native.Nat.{ℕ, zero, suc, _+_, _*_, _%_, _^_, _<_, _≤_}
 use native.Mathlib.Omega.{arith}
 use native.Mathlib.Nat.{zero-mul, one-mul}
 use lib.Dec.{lit<}

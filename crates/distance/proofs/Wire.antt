@@ -1,11 +1,10 @@
 -- One flipped bit on the wire: if the body is read, an escape was made or broken. Assumes nothing.
-use mathlib.Core.Path.{_≡_, refl, sym, ap, ap₂, _∙_, subst}
+use mathlib.Core.Path.{_≡_, refl, sym, ap, _∙_, subst}
 use mathlib.Core.Logic.{_⊎_, inl, inr}
 use mathlib.Core.List.{List, [], _∷_, _++_}
 use mathlib.Core.Option.{none, some, Option·some-injective}
 use Prim.Native.Nat.{ℕ, suc, _+_, _/_, _%_}
 use native.Mathlib.Omega.{arith}
-use lib.Dec.{lit<}
 use lib.ListN.{length, take, length-append}
 use Rattle.base.specs.Bytes.{Bytes}
 use Rattle.base.proofs.Bytes.{bytes-cons, bytes-tail}
@@ -80,5 +79,5 @@ other-length a b xs ys got h g l f e =
     (subst (λ (s : List ℕ). readBody s .verdict ≡ Valid) (q .1) (q .0)))
   where
     by : Broken (checked a xs) (checked b ys) ⊎ Broken (checked b ys) (checked a xs) → ByOne (length xs) (length ys)
-    by (inl w) = inl (by-one a b xs ys w)
-    by (inr w) = inr (sym (by-one b a ys xs w))
+    by (inl w) = inl (omega (arith, by-one a b xs ys w))
+    by (inr w) = inr (omega (arith, by-one b a ys xs w))
