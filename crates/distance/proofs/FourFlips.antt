@@ -56,6 +56,8 @@ pub four-pass : Unnoticed fewest
 four-pass = record {
   sent = body 0x00 0x00 0x65;
   got = body 0x20 0x40 0xE4;
+  sent-bytes = bytes-written (body 0x00 0x00 0x65) refl;
+  got-bytes = bytes-written (body 0x20 0x40 0xE4) refl;
   long = refl;
   differ = four;
   was = (0x05, write, outputs 0x00 0x00);

@@ -31,6 +31,7 @@ unfolding numberAt
 byte-at xs fcs i h =
     List·getD-append xs fcs 0 i h ∙ sym (zero-add (getD xs (i + 0) 0) ∙ ap (λ (j : ℕ). getD xs j 0) (add-zero i))
 
+-- a pair, with its bytes under other names
 renamed : {q k c d e s t m n s₁ t₁ m₁ n₁ : ℕ} → s ≡ s₁ → t ≡ t₁ → m ≡ m₁ → n ≡ n₁ → Pair q k c d e s t m n → Pair q k c d e s₁ t₁ m₁ n₁
 renamed a b f g (ahead l p r) = ahead l (sym a ∙ p ∙ f) (sym b ∙ r ∙ g)
 renamed a b f g (second l p r o) = second l (sym a ∙ p ∙ f) (sym b ∙ r) (sym g ∙ o)

@@ -9,6 +9,8 @@ use lib.Dec.{lit<}
 use lib.Bits.{bitXor, xor-zero-r}
 use lib.Count.{ones, onesIn}
 use lib.ListN.{length, replicate, length-append, length-replicate}
+use Rattle.base.specs.Bytes.{Bytes}
+use Rattle.base.proofs.Bytes.{bytes-cons, bytes-single, bytes-append, bytes-replicate}
 use Rattle.crc.specs.Crc.{polyOf, crcStart, topBit, crcBit, crcBits, crcByte, crcFrom, crcOf}
 use Rattle.crc.specs.declared.Poly.the-variants.{Fcs, Safety}
 use Rattle.crc.proofs.Linear.{from-linear, bit-low, bits-low}
@@ -21,6 +23,11 @@ use Rattle.distance.proofs.Squares.{steps, zero-stays, times, squared, 
 -- n + 2 bytes: zeros but for the first and the last
 abbrev ends : ℕ → ℕ → ℕ → List ℕ
 ends n a b = a ∷ replicate n 0 ++ (b ∷ [])
+
+ends-bytes : (n a b : ℕ) → a < 256 → b < 256 → Bytes (ends n a b)
+ends-bytes n a b ha hb =
+    bytes-cons a (replicate n 0 ++ (b ∷ [])) ha
+    (bytes-append (replicate n 0) (b ∷ []) (bytes-replicate n 0 (lit< tt)) (bytes-single b hb))
 
 -- ---- the register over them
 module _ (p : ℕ) where
@@ -95,6 +102,8 @@ pub missed : (p c n : ℕ) → crcBits p (n * 8 + 15) 1 ≡ 1 → MissedTwo (n *
 missed p c n e = record {
   sent = ends n 0x00 0x00;
   got = ends n 0x80 0x01;
+  sent-bytes = ends-bytes n 0x00 0x00 (lit< tt) (lit< tt);
+  got-bytes = ends-bytes n 0x80 0x01 (lit< tt) (lit< tt);
   long = ends-length p n 0x00 0x00 ∙ sym (ends-length p n 0x80 0x01);
   bits = omega (arith, ends-length p n 0x00 0x00);
   two = both-flips n;

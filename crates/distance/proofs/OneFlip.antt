@@ -9,6 +9,7 @@ use native.Mathlib.Omega.{arith}
 use lib.Count.{ones, onesIn}
 use lib.ListN.{replicate, getD}
 use Rattle.base.specs.Bytes.{bytesOf, numberAt}
+use Rattle.base.proofs.Bytes.{bytes-written}
 use Rattle.crc.specs.Crc.{topBit, crcBit, crcBits, crcByte, crcFrom, crcOf}
 use Rattle.stuffing.specs.Stuffing.{meaningOf, unstuffFrom, unstuff}
 use Rattle.wire.specs.Body.{reservedAddr, fcsOf, checkedBody, unstuffedBody, readBody}
@@ -47,6 +48,8 @@ pub response-passes : Unnoticed 1
 response-passes = record {
   sent = body 0x7D;
   got = body 0x7F;
+  sent-bytes = bytes-written (body 0x7D) refl;
+  got-bytes = bytes-written (body 0x7F) refl;
   long = refl;
   differ = one;
   was = (0xF0, answer, replicate 6 0x00);

@@ -8,6 +8,7 @@ use native.Mathlib.Omega.{arith}
 use lib.Count.{ones, onesIn}
 use lib.ListN.{replicate, getD}
 use Rattle.base.specs.Bytes.{bytesOf, numberAt}
+use Rattle.base.proofs.Bytes.{bytes-written}
 use Rattle.crc.specs.Crc.{topBit, crcBit, crcBits, crcByte, crcFrom, crcOf}
 use Rattle.stuffing.specs.Stuffing.{meaningOf, unstuffFrom, unstuff}
 use Rattle.wire.specs.Body.{reservedAddr, fcsOf, checkedBody, unstuffedBody, readBody}
@@ -43,6 +44,8 @@ pub write-passes : Unnoticed 1
 write-passes = record {
   sent = body 0x7D;
   got = body 0x7F;
+  sent-bytes = bytes-written (body 0x7D) refl;
+  got-bytes = bytes-written (body 0x7F) refl;
   long = refl;
   differ = one;
   was = (0x05, write 126 0x80, replicate 126 0x00);

@@ -27,6 +27,8 @@ bitsSeen Safety = 151
 pub record MissedTwo (n : ℕ) (crc : List ℕ → ℕ) : Type 0 where
   pub sent : List ℕ
   pub got : List ℕ
+  pub sent-bytes : Bytes sent
+  pub got-bytes : Bytes got
   pub long : length sent ≡ length got
   pub bits : 8 * length sent ≡ n
   pub two : flips sent got ≡ 2

@@ -4,6 +4,7 @@ use mathlib.Core.List.{List}
 use mathlib.Core.Option.{some}
 use Prim.Native.Nat.{ℕ}
 use lib.ListN.{length}
+use Rattle.base.specs.Bytes.{Bytes}
 use Rattle.burst.specs.Damage.{flips}
 use Rattle.frame_kinds.specs.declared.kinds.Frame.{Frame}
 use Rattle.frame_reading.specs.Reading.{readFrame, receivedAnswer}
@@ -12,6 +13,8 @@ use Rattle.frame_reading.specs.Reading.{readFrame, receivedAnswer}
 pub record Unnoticed (n : ℕ) : Type 0 where
   pub sent : List ℕ
   pub got : List ℕ
+  pub sent-bytes : Bytes sent
+  pub got-bytes : Bytes got
   pub long : length sent ≡ length got
   pub differ : flips sent got ≡ n
   pub was : ℕ × Frame × List ℕ

@@ -25,7 +25,7 @@ use Rattle.frame_writing.proofs.BothWays.{read-then-written}
 use Rattle.rules.specs.Answers.{accepted}
 use Rattle.rules.specs.Calls.{leastRoom, frameCall, frame, act}
 use Rattle.rules.specs.FrameCall.{onFrame}
-use Rattle.rules.specs.Replies.{Outcome, sent}
+use Rattle.rules.specs.Replies.{Outcome}
 use Rattle.rules.specs.Sound.{sound}
 use Rattle.rules.specs.Refusals.{rowOf, readOf, isSync, readsSync, skipsBy, skipsRead}
 use Rattle.rules.specs.State.{running}
