@@ -10,6 +10,7 @@ pub mod Wire
 pub mod FourFlips
 pub mod OneFlip
 pub mod OneFlipWrite
+pub mod TwoFlips
 pub mod Shifted
 pub mod WithData
 pub mod DataForms

@@ -11,6 +11,7 @@ use Rattle.distance.proofs.Wire.{other-length}
 use Rattle.distance.proofs.FrameFlip.{other-frame}
 use Rattle.distance.proofs.OneFlip.{response-passes}
 use Rattle.distance.proofs.OneFlipWrite.{write-passes}
+use Rattle.distance.proofs.TwoFlips.{two-pass}
 
 pub promised : Promised
 promised = record { two = two; missed = missed; bus-two = bus-two; fcs-limit = fcs-limit; safety-limit = safety-limit }
@@ -19,4 +20,10 @@ pub hamming : Hamming
 hamming = record { refused = few-refused; no-more = no-more; passed = four-pass }
 
 pub on-the-wire : OnTheWire
-on-the-wire = record { other-length = other-length; other-frame = other-frame; response-passes = response-passes; write-passes = write-passes }
+on-the-wire = record {
+  other-length = other-length;
+  other-frame = other-frame;
+  response-passes = response-passes;
+  write-passes = write-passes;
+  outputs-pass = two-pass;
+}

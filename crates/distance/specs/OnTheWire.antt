@@ -56,3 +56,5 @@ pub record OnTheWire : Type 0 where
   -- and that happens, with both CRCs right before and after: to a response, and to a write
   pub response-passes : Unnoticed 1
   pub write-passes : Unnoticed 1
+  -- two flipped bits, one of which breaks an escape and the other makes one, can turn a write of outputs into another one
+  pub outputs-pass : Unnoticed 2
