@@ -21,6 +21,8 @@ pub struct Answers {
     pub which: String,
 }
 
+/// from so many rows on the table is laid out row by row
+const LONG: usize = 2_000;
 const STYLE: &str = include_str!("style.css");
 const POLICY: &str = "default-src 'none'; style-src 'unsafe-inline'; base-uri 'none'; form-action 'none'";
 const SVG: &str = "xmlns=\"http://www.w3.org/2000/svg\"";
@@ -109,7 +111,9 @@ fn rows_section(script: &Script, answers: &Answers) -> String {
         made += "<p>The script has no lines.</p>\n";
     }
     made += "<input type=\"checkbox\" id=\"only\"/>\n<label for=\"only\">Show refused and BAD lines alone</label>\n";
-    made += "<table id=\"lines\">\n<thead><tr><th>line</th><th>ms</th><th>port</th><th>what</th><th>answer</th>\
+    let class = if answers.story.events.len() > LONG { " class=\"long\"" } else { "" };
+    made += &format!("<table id=\"lines\"{class}>\n");
+    made += "<thead><tr><th>line</th><th>ms</th><th>port</th><th>what</th><th>answer</th>\
              <th>mode, CYC</th><th>changes</th><th>reply</th></tr></thead>\n<tbody>\n";
     made += &rows::rows(script, answers);
     made += "</tbody>\n</table>\n";
