@@ -9,9 +9,10 @@ use crate::shapes;
 use crate::text::escaped;
 
 /// class, letter, and what it stands for
-const LETTERS: [(&str, &str, &str); 6] = [
+const LETTERS: [(&str, &str, &str); 7] = [
     ("read", "R", "read request"),
     ("write", "W", "write request"),
+    ("other", "N", "non-safe request"),
     ("other", "T", "TID assignment"),
     ("other", "S", "SID assignment"),
     ("other", "O", "another frame"),

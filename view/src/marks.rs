@@ -64,6 +64,7 @@ pub fn sign(frame: &Frame) -> (&'static str, f64, &'static str) {
         "sync" => ("sync", SYNCS, ""),
         "read" => ("read", REQUESTS, "R"),
         "write" => ("write", REQUESTS, "W"),
+        "plain-read" | "plain-write" => ("other", REQUESTS, "N"),
         "tid" => ("other", OTHERS, "T"),
         "sid" | "sid4" => ("other", OTHERS, "S"),
         kind if words::kind(kind) == words::kind("") => ("unread", OTHERS, "?"),

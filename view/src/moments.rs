@@ -36,12 +36,14 @@ const STEP: u64 = 250;
 type Pieces = Vec<Vec<u64>>;
 
 pub fn moments_of(programs: &Programs, script: &Script, story: &Story) -> Result<Moments, String> {
-    let (mut pieces, whole) = first_pieces(story);
+    let mut pieces = first_pieces(story);
     loop {
         let mut moments = played(programs, script, story, &pieces)?;
         let long: Vec<_> = moments.modes.iter().filter(|m| pieces[m.moment.line][m.piece] > 1).collect();
         if long.is_empty() {
-            moments.whole = whole;
+            let one_by_one = |line: &usize| pieces[*line].iter().all(|ticks| *ticks <= 1);
+            moments.clock.retain(|moment| one_by_one(&moment.line));
+            moments.whole = (0..pieces.len()).filter(|line| !one_by_one(line)).count() as u64;
             return Ok(moments);
         }
         // from the last to the first, so that the places before stay
@@ -53,21 +55,18 @@ pub fn moments_of(programs: &Programs, script: &Script, story: &Story) -> Result
     }
 }
 
-fn first_pieces(story: &Story) -> (Pieces, u64) {
-    let (mut left, mut whole) = (ONE_BY_ONE, 0);
+fn first_pieces(story: &Story) -> Pieces {
+    let mut left = ONE_BY_ONE;
     let pieces = story.events.iter().map(|event| match event.done.as_ref().map(|done| done.kind) {
         Some(Kind::Ticks(n)) if n <= left => {
             left -= n;
             vec![1; n as usize]
         }
-        Some(Kind::Ticks(n)) => {
-            whole += 1;
-            vec![n]
-        }
+        Some(Kind::Ticks(n)) => vec![n],
         Some(kind) => vec![kind.ticks()],
         None => Vec::new(),
     });
-    (pieces.collect(), whole)
+    pieces.collect()
 }
 
 fn cut(ticks: u64) -> Vec<u64> {

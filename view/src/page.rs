@@ -21,7 +21,7 @@ pub struct Answers {
     pub which: String,
 }
 
-/// from so many rows on the table is laid out row by row
+/// with more rows the table is laid out row by row
 const LONG: usize = 2_000;
 const STYLE: &str = include_str!("style.css");
 const POLICY: &str = "default-src 'none'; style-src 'unsafe-inline'; base-uri 'none'; form-action 'none'";

@@ -11,7 +11,7 @@ pub fn reason(line: &[u8]) -> String {
         return "an empty line".into();
     };
     if line.last() == Some(&b'\r') {
-        return "a CR before the LF; lines end with LF alone".into();
+        return "a CR at its end; lines end with LF alone".into();
     }
     match first {
         b'T' => "T wants a space and a number from 1 to 60000, without leading zeros".into(),

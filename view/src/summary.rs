@@ -53,7 +53,7 @@ pub fn header(script: &Script, answers: &Answers) -> String {
 
 fn which(answers: &Answers) -> String {
     match answers.which.trim() {
-        "FALLBACK" => "The script itself ends in fallback, so no frame is looked for that mattered.".into(),
+        "FALLBACK" => "The script itself ends in fallback, so saturn-which looks for no frame.".into(),
         "NONE" => "No single frame mattered: without any one of them the script still ends in RUN.".into(),
         "LONG" => "Too long for saturn-which, which takes 200 lines and 60,000 bytes.".into(),
         number => {
@@ -61,7 +61,7 @@ fn which(answers: &Answers) -> String {
             let frame = frame.map_or(String::new(), |f| format!(" ({} <code>{}</code>)", escaped(&f.words()), escaped(&f.text)));
             let number = escaped(number);
             format!(
-                "<a href=\"#L{number}\">Line {number} mattered</a>{frame}: without it alone the script would end in fallback. \
+                "<a href=\"#L{number}\">Line {number} mattered</a>{frame}: without this one line the script would end in fallback. \
                  It is the first such line."
             )
         }

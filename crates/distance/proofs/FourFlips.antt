@@ -23,10 +23,7 @@ use Rattle.burst.specs.Damage.{flips}
 use Rattle.burst.specs.OnTheLine.{plain}
 use Rattle.distance.specs.Hamming.{fewest, Distance}
 use Rattle.distance.specs.Unnoticed.{Unnoticed}
-
--- the outputs from 80h on, of which two may be set
-abbrev outputs : ℕ → ℕ → List ℕ
-outputs m n = m ∷ replicate 18 0x00 ++ (n ∷ replicate 14 0x00)
+use Rattle.distance.specs.Examples.{outputs, fourSent, fourRead}
 
 -- the application data of the write: the safety CRC is right for both; and the body for 05h with an FCS whose low byte is given, where no
 -- byte is stuffed
@@ -40,11 +37,7 @@ rest m n low = app m n ++ (0x11 ∷ low ∷ [])
 abbrev body : ℕ → ℕ → ℕ → List ℕ
 body m n low = 0x05 ∷ rest m n low
 
-abbrev write : Frame
-write = SafeWrite 0x000005 0x000007 0x10 0xF0 34 0x80
-
-both-read : (receivedAnswer (readFrame (body 0x00 0x00 0x65)) ≡ (0, some (0x05, write, outputs 0x00 0x00)))
-    × (receivedAnswer (readFrame (body 0x20 0x40 0xE4)) ≡ (0, some (0x05, write, outputs 0x20 0x40)))
+both-read : (receivedAnswer (readFrame (body 0x00 0x00 0x65)) ≡ (0, some fourSent)) × (receivedAnswer (readFrame (body 0x20 0x40 0xE4)) ≡ (0, some fourRead))
 unfolding readFrame receivedBody readApp readTyp readSafeRequest safeWriteRequest safeRead safeOk numberAt dataPlace laid bytesOf readBody unstuffedBody checkedBody fcsOf reservedAddr unstuff unstuffFrom meaningOf crcOf crcFrom crcByte crcBits crcBit topBit
 both-read = (refl, refl)
 
@@ -52,7 +45,7 @@ four : flips (body 0x00 0x00 0x65) (body 0x20 0x40 0xE4) ≡ 4
 unfolding flips ones onesIn
 four = refl
 
-pub four-pass : Unnoticed fewest
+pub four-pass : Unnoticed fewest fourSent fourRead
 four-pass = record {
   sent = body 0x00 0x00 0x65;
   got = body 0x20 0x40 0xE4;
@@ -60,8 +53,6 @@ four-pass = record {
   got-bytes = bytes-written (body 0x20 0x40 0xE4) refl;
   long = refl;
   differ = four;
-  was = (0x05, write, outputs 0x00 0x00);
-  now = (0x05, write, outputs 0x20 0x40);
   sent-read = both-read .0;
   got-read = both-read .1;
   changed = λ e. let z : _≡_ {A = ℕ} 0x00 0x20 = ap (λ (r : ℕ × Frame × List ℕ). getD (r .2) 0 0) e in omega arith;

@@ -21,6 +21,7 @@ use Rattle.frame_forms.specs.Forms.{safeOk, safeRead, safeCom, readSafeResponse
 use Rattle.frame_reading.specs.Reading.{readTyp, readApp, receivedBody, readFrame, receivedAnswer}
 use Rattle.burst.specs.Damage.{flips}
 use Rattle.distance.specs.Unnoticed.{Unnoticed}
+use Rattle.distance.specs.Examples.{responseSent, responseRead}
 
 -- the body on the wire, with the byte that was 7Dh
 abbrev body : ℕ → List ℕ
@@ -28,15 +29,7 @@ body x =
     0xF0 ∷ 0x70 ∷ 0x00 ∷ 0x38 ∷ 0x37 ∷ 0xD2 ∷ 0xCF ∷ x ∷ 0x5E ∷ 0xF8 ∷ 0x07 ∷ 0x07 ∷ 0x06 ∷ 0x80 ∷ replicate 6 0x00
     ++ (0x80 ∷ 0xE9 ∷ 0xD6 ∷ 0xEB ∷ 0x55 ∷ [])
 
--- DEST, SRC, CYC, SEQ, COM, DATL, ADD, STAT: SEQ is the complement of CYC as in every answer to a sync; and what is read
-abbrev answer : Frame
-answer = SafeResponse 0x003837 0xD2CF7E 0xF8 0x07 0x07 6 0x80 0x80
-
-abbrev other : Frame
-other = SafeResponse 0x003837 0xD2CF7F 0x5E 0xF8 0x07 7 0x06 0x80
-
-both-read : (receivedAnswer (readFrame (body 0x7D)) ≡ (0, some (0xF0, answer, replicate 6 0x00)))
-    × (receivedAnswer (readFrame (body 0x7F)) ≡ (0, some (0xF0, other, 0x80 ∷ replicate 6 0x00)))
+both-read : (receivedAnswer (readFrame (body 0x7D)) ≡ (0, some responseSent)) × (receivedAnswer (readFrame (body 0x7F)) ≡ (0, some responseRead))
 unfolding readFrame receivedBody readApp readTyp readSafeResponse safeCom safeRead safeOk numberAt dataPlace laid bytesOf readBody unstuffedBody checkedBody fcsOf reservedAddr unstuff unstuffFrom meaningOf crcOf crcFrom crcByte crcBits crcBit topBit
 both-read = (refl, refl)
 
@@ -44,7 +37,7 @@ one : flips (body 0x7D) (body 0x7F) ≡ 1
 unfolding flips ones onesIn
 one = refl
 
-pub response-passes : Unnoticed 1
+pub response-passes : Unnoticed 1 responseSent responseRead
 response-passes = record {
   sent = body 0x7D;
   got = body 0x7F;
@@ -52,8 +45,6 @@ response-passes = record {
   got-bytes = bytes-written (body 0x7F) refl;
   long = refl;
   differ = one;
-  was = (0xF0, answer, replicate 6 0x00);
-  now = (0xF0, other, 0x80 ∷ replicate 6 0x00);
   sent-read = both-read .0;
   got-read = both-read .1;
   changed = λ e. let z : _≡_ {A = ℕ} 0x00 0x80 = ap (λ (r : ℕ × Frame × List ℕ). getD (r .2) 0 0) e in omega arith;

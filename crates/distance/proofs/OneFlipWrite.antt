@@ -20,6 +20,7 @@ use Rattle.frame_forms.specs.Forms.{safeOk, safeRead, safeWriteRequest, readSaf
 use Rattle.frame_reading.specs.Reading.{readTyp, readApp, receivedBody, readFrame, receivedAnswer}
 use Rattle.burst.specs.Damage.{flips}
 use Rattle.distance.specs.Unnoticed.{Unnoticed}
+use Rattle.distance.specs.Examples.{writeSent, writeRead}
 
 -- the body on the wire, with the byte that was 7Dh
 abbrev body : ℕ → List ℕ
@@ -27,12 +28,7 @@ body x =
     0x05 ∷ 0x07 ∷ 0x00 ∷ 0x00 ∷ 0x05 ∷ 0x00 ∷ 0xC1 ∷ 0x25 ∷ 0x8D ∷ 0xA7 ∷ 0x77 ∷ x ∷ 0x5E ∷ 0x80 ∷ replicate 126 0x00
     ++ (0x87 ∷ 0xAB ∷ 0xEB ∷ 0xE8 ∷ [])
 
--- DEST, SRC, CYC, SEQ, DATL, ADD
-abbrev write : ℕ → ℕ → Frame
-write datl add = SafeWrite 0x000005 0x00C125 0x8D 0xA7 datl add
-
-both-read : (receivedAnswer (readFrame (body 0x7D)) ≡ (0, some (0x05, write 126 0x80, replicate 126 0x00)))
-    × (receivedAnswer (readFrame (body 0x7F)) ≡ (0, some (0x05, write 127 0x5E, 0x80 ∷ replicate 126 0x00)))
+both-read : (receivedAnswer (readFrame (body 0x7D)) ≡ (0, some writeSent)) × (receivedAnswer (readFrame (body 0x7F)) ≡ (0, some writeRead))
 unfolding readFrame receivedBody readApp readTyp readSafeRequest safeWriteRequest safeRead safeOk numberAt dataPlace laid bytesOf readBody unstuffedBody checkedBody fcsOf reservedAddr unstuff unstuffFrom meaningOf crcOf crcFrom crcByte crcBits crcBit topBit
 both-read = (refl, refl)
 
@@ -40,7 +36,7 @@ one : flips (body 0x7D) (body 0x7F) ≡ 1
 unfolding flips ones onesIn
 one = refl
 
-pub write-passes : Unnoticed 1
+pub write-passes : Unnoticed 1 writeSent writeRead
 write-passes = record {
   sent = body 0x7D;
   got = body 0x7F;
@@ -48,8 +44,6 @@ write-passes = record {
   got-bytes = bytes-written (body 0x7F) refl;
   long = refl;
   differ = one;
-  was = (0x05, write 126 0x80, replicate 126 0x00);
-  now = (0x05, write 127 0x5E, 0x80 ∷ replicate 126 0x00);
   sent-read = both-read .0;
   got-read = both-read .1;
   changed = λ e. let z : _≡_ {A = ℕ} 0x00 0x80 = ap (λ (r : ℕ × Frame × List ℕ). getD (r .2) 0 0) e in omega arith;

@@ -12,6 +12,7 @@ use Rattle.distance.proofs.FrameFlip.{other-frame}
 use Rattle.distance.proofs.OneFlip.{response-passes}
 use Rattle.distance.proofs.OneFlipWrite.{write-passes}
 use Rattle.distance.proofs.TwoFlips.{two-pass}
+use Rattle.distance.proofs.FlagMade.{flag-cuts}
 
 pub promised : Promised
 promised = record { two = two; missed = missed; bus-two = bus-two; fcs-limit = fcs-limit; safety-limit = safety-limit }
@@ -26,4 +27,5 @@ on-the-wire = record {
   response-passes = response-passes;
   write-passes = write-passes;
   outputs-pass = two-pass;
+  flag-cuts = flag-cuts;
 }

@@ -11,6 +11,7 @@ use Rattle.wire.specs.declared.Verdict.the-variants.{Valid}
 use Rattle.burst.specs.Damage.{flips}
 use Rattle.burst.specs.OnTheLine.{plain}
 use Rattle.distance.specs.Unnoticed.{Unnoticed}
+use Rattle.distance.specs.Examples.{fourSent, fourRead}
 
 -- the fewest flipped bits that can pass
 abbrev pub fewest : ℕ
@@ -24,6 +25,6 @@ Distance n =
 
 pub record Hamming : Type 0 where
   pub refused : Distance fewest
-  -- and no more: so many flipped bits of a frame can pass, with both CRCs right before and after
+  -- and no more: so many flipped bits of a frame can pass, with both CRCs right before and after; no byte of it is stuffed
   pub no-more : Distance (fewest + 1) → ⊥
-  pub passed : Unnoticed fewest
+  pub passed : Unnoticed fewest fourSent fourRead

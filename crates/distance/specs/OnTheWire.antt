@@ -1,5 +1,6 @@
--- One flipped bit of a body as it stands on the wire, address and stuffed bytes. It may make or break an escape, and the FCS need not
--- detect that; all else it does. Assumes nothing.
+-- One flipped bit of a body as it stands on the wire, address and stuffed bytes, and handed over as one body again. It may make or break an
+-- escape, and the FCS need not detect that; all else it does. A bit that makes a flag cuts the body in two, and the statements about
+-- `got` are then of no use: `flag-cuts`. Assumes nothing.
 use mathlib.Core.Path.{_≡_}
 use mathlib.Core.Logic.{_⊎_}
 use mathlib.Core.List.{List}
@@ -15,7 +16,8 @@ use Rattle.frame_reading.specs.Reading.{readFrame}
 use Rattle.frame_reading.specs.declared.Reading.the-variants.{Valid}
 use Rattle.burst.specs.Damage.{flips}
 use Rattle.burst.specs.OnTheLine.{plain}
-use Rattle.distance.specs.Unnoticed.{Unnoticed}
+use Rattle.distance.specs.Unnoticed.{Unnoticed, Split}
+use Rattle.distance.specs.Examples.{responseSent, responseRead, writeSent, writeRead, nineSent, nineRead, wholeSent, innerRead}
 
 -- n is one more than m, or one less
 abbrev pub ByOne : ℕ → ℕ → Type 0
@@ -54,7 +56,9 @@ pub record OnTheWire : Type 0 where
   pub other-length : OtherLength
   pub other-frame : OtherFrame
   -- and that happens, with both CRCs right before and after: to a response, and to a write
-  pub response-passes : Unnoticed 1
-  pub write-passes : Unnoticed 1
+  pub response-passes : Unnoticed 1 responseSent responseRead
+  pub write-passes : Unnoticed 1 writeSent writeRead
   -- two flipped bits, one of which breaks an escape and the other makes one, can turn a write of outputs into another one
-  pub outputs-pass : Unnoticed 2
+  pub outputs-pass : Unnoticed 2 nineSent nineRead
+  -- one flipped bit that makes a flag can cut a write of outputs in two, of which the second is another write of outputs
+  pub flag-cuts : Split wholeSent innerRead

@@ -12,8 +12,9 @@ use Rattle.rules.specs.Calls.{frame, act}
 use Rattle.rules.specs.Refusals.{Refused}
 use Rattle.rules.specs.declared.Agent.{Agent}
 
--- what was sent is a frame; what arrived on a port differs from it in one bit, address and stuffed bytes counted: whatever the module's
--- state, it refuses it, sends nothing, and changes only what the row of the number says
+-- what was sent is a frame; the body that arrived on a port differs from it in one bit, address and stuffed bytes counted: whatever the
+-- module's state, it refuses it, sends nothing, and changes only what the row of the number says. A bit that makes a flag brings two
+-- bodies, and of the second nothing is said here (`flag-cuts` in distance)
 abbrev pub OneFlip : Type 0
 OneFlip =
     (a : Agent) (port room addr : ℕ) (f : Frame) (sent got : List ℕ) → Bytes sent → Bytes got → length sent ≡ length got → flips sent got ≡ 1
