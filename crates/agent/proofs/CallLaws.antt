@@ -1,16 +1,17 @@
--- The tick call, by the outcome of each test. Assumes nothing.
+-- The tick call, by the outcome of each test, and the frame call that passes the host's. Assumes nothing.
 use mathlib.Core.Path.{◌≡◌, refl, ◌∙◌, sym}
-use mathlib.Core.Bool.{Bool, true, false}
+use mathlib.Core.Bool.{Bool, true, false, ◌||◌}
 use mathlib.Core.List.{List}
-use Prim.Native.Nat.{ℕ}
-use borrow.Author.Tests.{eq-eqb, ne_eqb}
+use Prim.Native.Nat.{ℕ, ◌≤◌}
+use borrow.Author.Tests.{eq-eqb, ne_eqb, le-ltb}
 use lib.Dec.{eqb}
 use lib.ListN.{length}
 use Rattle.base.proofs.Choosing.{by_test}
 use Rattle.rules.specs.Answers.{accepted, unsound, host_input}
-use Rattle.rules.specs.Calls.{Answers, tick_call}
+use Rattle.rules.specs.Calls.{Answers, tick_call, frame_call}
+use Rattle.rules.specs.FrameCall.{on_frame}
 use Rattle.rules.specs.Registers.{image}
-use Rattle.rules.specs.Replies.{Outcome}
+use Rattle.rules.specs.Replies.{Outcome, sent}
 use Rattle.rules.specs.Sound.{sound}
 use Rattle.rules.specs.declared.Agent.{Agent}
 
@@ -40,3 +41,9 @@ module _ (a : Agent) (xs : List ℕ) where
 
   pub tick_answers : (n : ℕ) (b : Agent) → n ≡ (tick_call a xs).answer → n ≡ accepted → b ≡ (tick_call a xs).agent → Answers (tick_call a xs) accepted b
   tick_answers n b e h f = (sym h ∙ e, f)
+
+-- a frame call that the host's numbers let through
+pub frame_passes : (a : Agent) (port : ℕ) (body : List ℕ) (room : ℕ) → true ≡ sound a → 545 ≤ room → (eqb port 1 || eqb port 2) ≡ true
+    → frame_call a port body room ≡ sent (on_frame port a body)
+unfolding frame_call
+frame_passes a port body room s r k = rw (← s, le-ltb _ _ r, k)

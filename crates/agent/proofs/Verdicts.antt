@@ -1,15 +1,12 @@
 -- What a body received on a port does, by the verdict that was found and the bytes in the lent array. Assumes nothing.
 use mathlib.Core.Path.{◌≡◌, sym, ap, ◌∙◌}
-use mathlib.Core.List.{List, [], ◌∷◌}
+use mathlib.Core.List.{List}
 use Prim.Native.Nat.{ℕ}
 use lib.ListN.{take}
-use types.Run.{OneOf}
-use denote.Enum.Declared.{tag_of}
 use Rattle.wire.specs.Body.{body_in, read_body, verdict_number}
 use Rattle.wire.specs.declared.Found.{Found}
 use Rattle.wire.specs.declared.Verdict.{Verdict}
 use Rattle.wire.specs.declared.Verdict.TheVariants.{Valid, Reserved}
-use Rattle.wire.specs.contracts.Verdict as verdict-type
 use Rattle.wire.proofs.BodyLength.{Short, read_short}
 use Rattle.rules.specs.FrameCall.{on_app, on_verdict, on_body, on_frame}
 use Rattle.rules.specs.Marks.{line_marked}
@@ -34,6 +31,6 @@ module _ (s : List ℕ) (f : Found) (xs : List ℕ) (e : body_in f xs ≡ read_b
     found_reserved = by_verdict_lem Reserved
 
     -- 1 to 4
-    pub found_line : OneOf (1 ∷ 2 ∷ 3 ∷ 4 ∷ []) (tag_of verdict-type.the_type f.verdict) → does (verdict_number f.verdict) (line_marked a) ≡ on_frame port a s
+    pub found_line : (f.verdict ≡ Valid → ⊥) → (f.verdict ≡ Reserved → ⊥) → does (verdict_number f.verdict) (line_marked a) ≡ on_frame port a s
     unfolding on_frame on_body
-    found_line k = line_refused port a (body_in f xs) f.verdict k ∙ ap (on_body port a) e
+    found_line k l = line_refused port a (body_in f xs) f.verdict k l ∙ ap (on_body port a) e

@@ -13,13 +13,14 @@ use rules::Agent;
 use wire::{Verdict, read_into, verdict_number};
 
 // The answer, and the agent afterwards.
-#[derive(Drop)]
+#[derive(Clone, Copy)]
 pub struct Told {
     pub answer: u8,
     pub agent: Agent,
 }
 
 // The answer to a tick call. The call in place asks for it first, so that a call which is refused stores nothing.
+#[tactic(auto, using(crate::proofs::CallLaws::tick_unsound, crate::proofs::CallLaws::tick_inputs, crate::proofs::CallLaws::tick_accepted))]
 pub fn tick_answer(a: Agent, xs: &[u8]) -> u8
     ensures { result ≡ (tick_call a xs.now).answer }
 {
@@ -32,6 +33,7 @@ pub fn tick_answer(a: Agent, xs: &[u8]) -> u8
     ACCEPTED
 }
 
+#[tactic(auto, using(crate::proofs::CallLaws::tick_refused, crate::proofs::CallLaws::tick_answers))]
 pub fn tick(a: Agent, xs: &[u8]) -> Told
     ensures { Answers (tick_call a xs.now) result.answer result.agent }
 {
@@ -54,6 +56,7 @@ const LEAST_ROOM: usize = 545;
 
 // A body received on a port, and the reply buffer, whose bytes past what is sent keep their value. After the host's numbers, 1 to
 // 4 are the line's and 5 another station's: for these nothing is to be sent, so they go past `send`.
+#[tactic(auto, unfolding(rules::specs::Calls::frame_call))]
 pub fn frame(a: Agent, port: u8, body: &[u8], reply: &mut [u8]) -> Handled
     ensures { AnswersFrame (frame_call a port body.now (length reply.old)) result.answer result.agent result.sent reply.old reply.new }
 {

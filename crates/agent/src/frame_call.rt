@@ -23,6 +23,7 @@ const DATA_PLACE: usize = 12;
 
 // By the kind of frame that was read in the application data `s`. The last two arms are never reached: `agent_read`
 // yields only frames that are served.
+#[tactic(auto, using(crate::proofs::WholeLaws::part_length, crate::proofs::WholeLaws::write_asked))]
 fn on_kind(port: u8, a: Agent, f: Frame, s: &[u8]) -> Deed
     requires { Whole f s.now × (length s.now ≤ 272) }
     ensures { (result ≡ on_kind port a f (data_in f s.now)) × Fitting result.reply }
@@ -56,6 +57,7 @@ fn on_kind(port: u8, a: Agent, f: Frame, s: &[u8]) -> Deed
 }
 
 // The TYPs that are served: 00h, 07h, 3Ch, C3h.
+#[tactic(auto, unfolding(rules::specs::FrameCall::served))]
 fn served(typ: u8) -> bool
     ensures { result ≡ served typ }
 {
@@ -77,6 +79,7 @@ fn is_sil4(s: &[u8]) -> bool
 }
 
 // Application data as this module reads them.
+#[tactic(auto, unfolding(rules::specs::FrameCall::agent_read))]
 fn agent_read(addr: u8, s: &[u8]) -> Read
     ensures { result ≡ agent_read addr s.now }
 {
@@ -109,6 +112,7 @@ fn is_own(a: Agent, addr: u8) -> bool
     (addr == tid) | (addr == 0x90) | (addr == 0xFF)
 }
 
+#[tactic(auto, using(crate::proofs::WholeLaws::read_whole), unfolding(rules::specs::FrameCall::on_app))]
 pub fn on_app(port: u8, a: Agent, addr: u8, s: &[u8]) -> Deed
     requires { length s.now ≤ 272 }
     ensures { (result ≡ on_app port a addr s.now) × Fitting result.reply }

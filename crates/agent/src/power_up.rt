@@ -37,6 +37,7 @@ fn put_settings(regs: &mut [u8; 256])
 }
 
 // MAC, IID, TYP 82h and VER, the settings, 27h to 7Fh = FFh; 26h stays 0, no ground.
+#[tactic(auto, using(crate::proofs::PowerUpLaws::power_regs_law))]
 fn power_regs(mac: u64, iid: u64, ver: u16) -> [u8; 256]
     ensures { result ≡ power_regs mac iid ver }
 {
@@ -51,6 +52,7 @@ fn power_regs(mac: u64, iid: u64, ver: u16) -> [u8; 256]
 }
 
 // Fallback, unheard, no mark, counters 0, no source; with the limit of requests.
+#[tactic(auto, unfolding(rules::specs::PowerUp::power_up))]
 pub fn power_up(mac: u64, iid: u64, ver: u16, limit: u8) -> Agent
     ensures { result ≡ power_up mac iid ver (fixed_by limit) }
 {

@@ -1,5 +1,7 @@
 // What the assignments of TID and SID do.
 // One function for each rule, as in `rules`. Only the crates of the agent call these.
+#![tactic(auto)]
+
 ghost use Rattle.std.specs.Prelude.{◌≡◌, ◌^◌, ◌<◌};
 ghost use Rattle.rules.specs.Assignments.{on_tid, on_first_sid, on_later_sid, on_sid};
 ghost use Rattle.agent_replies.specs.Fitting.{Fitting};
@@ -13,6 +15,7 @@ use agent_state::tid::assignable;
 use rules::{Agent, Deed};
 
 // For the module's own IID; no reply.
+#[tactic(auto, unfolding(rules::specs::Assignments::on_tid))]
 pub fn on_tid(a: Agent, iid: u64, tid: u8) -> Deed
     ensures { (result ≡ on_tid a iid tid) × Fitting result.reply }
 {
@@ -28,6 +31,7 @@ pub fn on_tid(a: Agent, iid: u64, tid: u8) -> Deed
 }
 
 // The first is accepted if SID and SRC differ from FFFFFFh; `on_sid` tests SRC.
+#[tactic(auto, unfolding(rules::specs::Assignments::on_first_sid))]
 fn on_first_sid(a: Agent, src: u32, sec: u32, sid: u32) -> Deed
     requires { (src < 2 ^ 24) × (a.count ≡ 0) }
     ensures { (result ≡ on_first_sid a src sec sid) × Fitting result.reply }
@@ -41,6 +45,7 @@ fn on_first_sid(a: Agent, src: u32, sec: u32, sid: u32) -> Deed
 }
 
 // Later ones must repeat the SID; a new SRC is recorded, and a known SRC is acknowledged again.
+#[tactic(auto, unfolding(rules::specs::Assignments::on_later_sid))]
 fn on_later_sid(a: Agent, src: u32, sec: u32, sid: u32) -> Deed
     requires { src < 2 ^ 24 }
     ensures { (result ≡ on_later_sid a src sec sid) × Fitting result.reply }
@@ -58,6 +63,7 @@ fn on_later_sid(a: Agent, src: u32, sec: u32, sid: u32) -> Deed
 }
 
 // For the module's own MAC.
+#[tactic(auto, unfolding(rules::specs::Assignments::on_sid))]
 pub fn on_sid(a: Agent, src: u32, sec: u32, mac: u64, sid: u32) -> Deed
     requires { src < 2 ^ 24 }
     ensures { (result ≡ on_sid a src sec mac sid) × Fitting result.reply }

@@ -8,10 +8,11 @@ use agent_state::state::{IN_FALLBACK, IN_RUN, UNMARKED, WITHHELD};
 use rules::Agent;
 
 // Sets 80h to BFh to 00h, OUT_REP to AAh, q to 0 and STATUT bit 7, and clears the mark; from RUN, 26h shows the ground.
-pub fn enter_fallback(ground: u8, a: Agent) -> Agent
-    ensures { result ≡ enter_fallback ground a }
+#[tactic(auto, unfolding(rules::specs::Fallback::enter_fallback))]
+pub fn enter_fallback(cause: u8, a: Agent) -> Agent
+    ensures { result ≡ enter_fallback cause a }
 {
-    let shown = ground_after(a.mode, ground, a.regs[GROUND]);
+    let shown = ground_after(a.mode, cause, a.regs[GROUND]);
     let mut next = a;
     next.regs[STATUT] = next.regs[STATUT] | 0x80;
     next.regs[OUT_REP] = WITHHELD;
@@ -24,6 +25,7 @@ pub fn enter_fallback(ground: u8, a: Agent) -> Agent
 }
 
 // The mode becomes RUN, STATUT bit 7 is cleared, q = 0.
+#[tactic(auto, unfolding(rules::specs::Fallback::enter_run))]
 pub fn enter_run(a: Agent) -> Agent
     ensures { result ≡ enter_run a }
 {

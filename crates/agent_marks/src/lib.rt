@@ -1,4 +1,6 @@
 // What a refusal and a skip mark and count, and entering fallback and RUN. One function for each rule, as in `rules`. Only the
 // crates of the agent call these.
+#![tactic(auto)]
+
 pub mod fallback;
 pub mod marks;

@@ -14,6 +14,7 @@ fn counter(x: u8) -> u8
 }
 
 // n more, up to 255.
+#[tactic(auto, using(rules::proofs::Skips::counter_by_lem))]
 fn counter_by(n: u8, x: u8) -> u8
     ensures { result ≡ counter_by n x }
 {
@@ -21,6 +22,7 @@ fn counter_by(n: u8, x: u8) -> u8
 }
 
 // 1 to 4: bit 5.
+#[tactic(auto, unfolding(rules::specs::Marks::line_marked))]
 pub fn line_marked(a: Agent) -> Agent
     ensures { result ≡ line_marked a }
 {
@@ -30,6 +32,7 @@ pub fn line_marked(a: Agent) -> Agent
 }
 
 // 7: bit 5, and CPT_FOR (24h) + 1.
+#[tactic(auto, unfolding(rules::specs::Marks::format_marked))]
 pub fn format_marked(a: Agent) -> Agent
     ensures { result ≡ format_marked a }
 {
@@ -40,6 +43,7 @@ pub fn format_marked(a: Agent) -> Agent
 }
 
 // 12 and 14: bit 1, and CPT_SEQ (20h) + 1.
+#[tactic(auto, unfolding(rules::specs::Marks::sequence_marked))]
 pub fn sequence_marked(a: Agent) -> Agent
     ensures { result ≡ sequence_marked a }
 {
@@ -51,6 +55,7 @@ pub fn sequence_marked(a: Agent) -> Agent
 }
 
 // n numbers skipped: each adds 1 to CPT_SEQ, and any sets bit 1.
+#[tactic(auto, using(rules::proofs::Skips::some_skipped), unfolding(rules::specs::Marks::skip_marked))]
 pub fn skip_marked(n: u8, a: Agent) -> Agent
     ensures { result ≡ skip_marked n a }
 {
@@ -63,6 +68,7 @@ pub fn skip_marked(n: u8, a: Agent) -> Agent
 }
 
 // 22: bit 1, and the mark.
+#[tactic(auto, unfolding(rules::specs::Marks::window_marked))]
 pub fn window_marked(a: Agent) -> Agent
     ensures { result ≡ window_marked a }
 {

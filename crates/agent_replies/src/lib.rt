@@ -1,4 +1,6 @@
 // Replies: built after the effect, and sent. One function for each rule, as in `rules`. Only the crates of the agent call
 // these.
+#![tactic(auto)]
+
 pub mod replies;
 pub mod sending;

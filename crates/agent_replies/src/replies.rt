@@ -58,6 +58,7 @@ fn no_span(datl: u8, add: u8) -> bool
 }
 
 // To a sync: COM 07h with SZ_REF bytes from AD_REF, or error AAh. SEQ is the complement of CYC.
+#[tactic(auto, using(crate::proofs::ReplyLaws::sync_said), unfolding(rules::specs::Replies::sync_reply))]
 pub fn sync_reply(port: u8, a: Agent, src: u32, cyc: u8) -> Deed
     requires { src < 2 ^ 24 }
     ensures { (result ≡ sync_reply port a src cyc) × Fitting result.reply }
@@ -82,6 +83,7 @@ pub fn sync_reply(port: u8, a: Agent, src: u32, cyc: u8) -> Deed
 }
 
 // To a read: COM 70h, or error 55h. SEQ is the request's plus one.
+#[tactic(auto, using(crate::proofs::ReplyLaws::read_said), unfolding(rules::specs::Replies::read_reply))]
 pub fn read_reply(port: u8, a: Agent, src: u32, seq: u8, datl: u8, add: u8) -> Deed
     requires { src < 2 ^ 24 }
     ensures { (result ≡ read_reply port a src seq datl add) × Fitting result.reply }
@@ -104,6 +106,7 @@ pub fn read_reply(port: u8, a: Agent, src: u32, seq: u8, datl: u8, add: u8) -> D
 }
 
 // To a SID assignment.
+#[tactic(auto, unfolding(rules::specs::Replies::acknowledges))]
 pub fn acknowledges(a: Agent, src: u32, sec: u32) -> Deed
     requires { src < 2 ^ 24 }
     ensures { (result ≡ acknowledges a src sec) × Fitting result.reply }

@@ -12,7 +12,7 @@ use laying::Laid;
 use rules::{Agent, Deed, Reply};
 
 // The answer, the agent afterwards, and how many bytes of the reply buffer are to be sent.
-#[derive(Drop)]
+#[derive(Clone, Copy)]
 pub struct Handled {
     pub answer: u8,
     pub agent: Agent,
@@ -30,7 +30,7 @@ fn muted(a: Agent) -> bool
 }
 
 // The registers that a reply shows: DATL of them, starting at ADD, with STAT at 19h.
-#[derive(Drop)]
+#[derive(Clone, Copy)]
 struct Part {
     add: u8,
     datl: u8,
@@ -68,6 +68,7 @@ fn length_in(laid: Laid) -> usize
 }
 
 // Lays down a reply; returns how many bytes it takes.
+#[tactic(auto, using(crate::proofs::SendingLaws::part_inside))]
 fn lay_reply(f: Frame, a: Agent, reply: &mut [u8]) -> u16
     requires { Laying f × (545 ≤ length reply.old) }
     ensures { (result ≡ length (frame_line 0xF0 f (reply_data a f))) × (reply.new ≡ frame_line 0xF0 f (reply_data a f) ++ drop (length (frame_line 0xF0 f (reply_data a f))) reply.old) }
@@ -93,6 +94,7 @@ pub fn unsent(n: u8, a: Agent) -> Handled
 }
 
 // Sends a frame, unless the module is muted.
+#[tactic(auto, unfolding(rules::specs::Replies::send_frame))]
 fn send_frame(f: Frame, n: u8, a: Agent, reply: &mut [u8]) -> Handled
     requires { Laying f × (545 ≤ length reply.old) }
     ensures { Handles (send_frame f n a) result reply.old reply.new }
@@ -111,6 +113,7 @@ fn send_frame(f: Frame, n: u8, a: Agent, reply: &mut [u8]) -> Handled
 }
 
 // Sends what the deed says is to be sent, if anything.
+#[tactic(auto, unfolding(rules::specs::Replies::sent))]
 pub fn send(d: Deed, reply: &mut [u8]) -> Handled
     requires { Fitting d.reply × (545 ≤ length reply.old) }
     ensures { Handles (sent d) result reply.old reply.new }

@@ -1,5 +1,7 @@
 // What a safe request does: its source, SID and cycle, then how far its SEQ is from the first of the cycle, then what it asks for.
 // One function for each rule, as in `rules`. Only the crates of the agent call these.
+#![tactic(auto)]
+
 ghost use Rattle.std.specs.Prelude.{◌≡◌, ◌^◌, ◌<◌, ◌≤◌, length};
 ghost use Rattle.rules.specs.Requests.{first_seq, distance, on_ask, on_distance, on_request};
 ghost use Rattle.agent_requests.specs.Asks.{ask_of};
@@ -21,6 +23,7 @@ fn first_seq(cyc: u8) -> u8
 }
 
 // d = SEQ minus the first SEQ, modulo 256.
+#[tactic(auto, unfolding(rules::specs::Requests::distance))]
 fn distance(seq: u8, cyc: u8) -> u8
     ensures { result ≡ distance seq cyc }
 {
@@ -28,7 +31,7 @@ fn distance(seq: u8, cyc: u8) -> u8
 }
 
 // What a request asks for: DATL and ADD of a read, or ADD of a write, whose bytes are passed along in a slice.
-#[derive(Drop)]
+#[derive(Clone, Copy)]
 pub enum Ask {
     Reads(u8, u8),
     Writes(u8),
@@ -49,6 +52,7 @@ const MOST_SKIPPED: u8 = 3;
 
 // By the distance: below k is a repeat, a number skipped before too; above k + 3 is out of order; at the limit or past it is 15;
 // else the request is taken, even if its write is then refused: the numbers skipped are counted, and k becomes d + 1.
+#[tactic(auto, unfolding(rules::specs::Requests::on_distance))]
 fn on_distance(port: u8, a: Agent, src: u32, seq: u8, d: u8, ask: Ask, xs: &[u8]) -> Deed
     requires { (src < 2 ^ 24) × (length xs.now ≤ 272) }
     ensures { (result ≡ on_distance port a src seq d (ask_of ask xs.now)) × Fitting result.reply }
@@ -70,6 +74,7 @@ fn on_distance(port: u8, a: Agent, src: u32, seq: u8, d: u8, ask: Ask, xs: &[u8]
 
 // 10 unless the source is that of the last accepted sync; 11 unless DEST is the own SID; 12 unless the cycle is heard
 // and CYC = c.
+#[tactic(auto, unfolding(rules::specs::Requests::on_request))]
 pub fn on_request(
     port: u8,
     a: Agent,

@@ -1,5 +1,7 @@
 // A module at rest, in fallback and not released: its ticks move only its clock, so many of them cost little. The programs that play
 // scripts use it; no firmware does.
+#![tactic(auto)]
+
 ghost use Rattle.std.specs.Prelude.{◌≡◌};
 ghost use Rattle.agent_rest.specs.Rest.{at_rest, clock_of, with_clock_of, more_silence, clock_tick, clock_ticks};
 ghost use Rattle.rules.specs.State.{t_of};
@@ -10,7 +12,7 @@ use agent_state::state::{IN_RUN, UNHEARD, UNMARKED, WITHHELD};
 use rules::Agent;
 
 // What a tick moves: e, s, c, heard and k.
-#[derive(Drop)]
+#[derive(Clone, Copy)]
 pub struct Clock {
     pub elapsed: u8,
     pub silence: u16,
@@ -22,6 +24,7 @@ pub struct Clock {
 // s stops here.
 const SILENCE_END: u16 = 65535;
 
+#[tactic(auto, using(crate::proofs::RestLaws::rest_none, crate::proofs::RestLaws::rest_calm))]
 pub fn at_rest(a: Agent) -> bool
     ensures { result ≡ at_rest a }
 {
@@ -40,6 +43,7 @@ fn more_silence(s: u16) -> u16
 }
 
 // One tick, with TCYC t.
+#[tactic(auto, using(crate::proofs::ClockLaws::clock_over, crate::proofs::ClockLaws::clock_on))]
 fn clock_tick(t: u8, clock: Clock) -> Clock
     ensures { result ≡ clock_tick t clock }
 {

@@ -16,8 +16,8 @@ pub const BY_ORDER: u8 = 4;
 pub const BY_WINDOW: u8 = 5;
 
 // The ground if the module was in RUN, else what was shown before.
-pub fn ground_after(mode: u8, ground: u8, shown: u8) -> u8
-    ensures { result ≡ choose (eqb mode in_run) ground shown }
+pub fn ground_after(mode: u8, cause: u8, shown: u8) -> u8
+    ensures { result ≡ choose (eqb mode in_run) cause shown }
 {
-    if mode == IN_RUN { ground } else { shown }
+    if mode == IN_RUN { cause } else { shown }
 }

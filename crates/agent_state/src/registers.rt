@@ -65,6 +65,7 @@ pub fn product(x: u8, y: u8) -> u16
 }
 
 // The number in the three registers starting at `at`.
+#[tactic(auto, using(crate::proofs::LowNumbers::number_three))]
 pub fn number3(regs: &[u8; 256], at: usize) -> u32
     requires { at + 3 ≤ 256 }
     ensures { (result ≡ low_number regs.now at 3) × (result < 2 ^ 24) }
@@ -76,6 +77,7 @@ pub fn number3(regs: &[u8; 256], at: usize) -> u32
 }
 
 // The number in the eight registers starting at `at`.
+#[tactic(auto, using(crate::proofs::LowNumbers::number_none, crate::proofs::LowNumbers::number_end))]
 pub fn number8(regs: &[u8; 256], at: usize) -> u64
     requires { at + 8 ≤ 256 }
     ensures { result ≡ low_number regs.now at 8 }
@@ -90,6 +92,7 @@ pub fn number8(regs: &[u8; 256], at: usize) -> u64
 }
 
 // Stores the `width` low bytes of a number, starting at `at`.
+#[tactic(auto, using(crate::proofs::LowNumbers::low_turn))]
 pub fn put_low(regs: &mut [u8; 256], at: usize, width: usize, n: u64)
     requires { at + width ≤ 256 }
     ensures { regs.new ≡ sets regs.old at (low_bytes width n) }
@@ -104,6 +107,7 @@ pub fn put_low(regs: &mut [u8; 256], at: usize, width: usize, n: u64)
 }
 
 // Stores one value in `count` registers, starting at `at`.
+#[tactic(auto, using(base::proofs::Fills::fill_turn, base::proofs::Fills::fill_end))]
 pub fn fill(regs: &mut [u8; 256], at: usize, count: usize, x: u8)
     requires { at + count ≤ 256 }
     ensures { regs.new ≡ sets regs.old at (replicate count x) }
@@ -116,6 +120,7 @@ pub fn fill(regs: &mut [u8; 256], at: usize, count: usize, x: u8)
 }
 
 // Stores bytes, starting at `at`.
+#[tactic(auto, using(base::proofs::Stores::copy_turn, base::proofs::Stores::copy_end))]
 pub fn put_bytes(regs: &mut [u8; 256], at: usize, xs: &[u8])
     requires { at + length xs.now ≤ 256 }
     ensures { regs.new ≡ sets regs.old at xs.now }

@@ -18,6 +18,7 @@ use rules::Agent;
 
 // t, n, m are not 0, OUT_REP is 55h or AAh, TID is 8Fh or assignable, TYP is 82h, 26h is 0 to 5; the limit of requests is 16
 // or 64.
+#[tactic(auto, using(crate::proofs::SoundLaws::settings_law))]
 fn settings_sound(a: Agent) -> bool
     ensures { result ≡ settings_sound a }
 {
@@ -36,6 +37,7 @@ fn settings_sound(a: Agent) -> bool
 }
 
 // At most 8 are recorded, all distinct, each below FFFFFFh; nobody is recorded exactly when the SID is FFFFFFh.
+#[tactic(auto, using(crate::proofs::SoundLaws::sources_law, crate::proofs::SoundLaws::sources_many))]
 fn sources_sound(a: Agent) -> bool
     ensures { result ≡ sources_sound a }
 {
@@ -52,6 +54,7 @@ fn sources_sound(a: Agent) -> bool
 
 // k is at most the limit, e at most 254; the last source is recorded, or there is none and the cycle is unheard; heard and the
 // mark each have one of their two values.
+#[tactic(auto, using(crate::proofs::SoundLaws::counters_law))]
 fn counters_sound(a: Agent) -> bool
     ensures { result ≡ counters_sound a }
 {
@@ -64,6 +67,7 @@ fn counters_sound(a: Agent) -> bool
 }
 
 // The outputs are 0.
+#[tactic(auto, using(crate::proofs::SoundLaws::outputs_none, crate::proofs::SoundLaws::outputs_turn))]
 fn outputs_zero(regs: &[u8; 256]) -> bool
     ensures { result ≡ outputs_zero regs.now image }
 {
@@ -77,6 +81,7 @@ fn outputs_zero(regs: &[u8; 256]) -> bool
 }
 
 // In RUN: bits 7 and 6 of STATUT are 0, OUT_REP is 55h, s is below n × t, q below m × t, and there is a last source.
+#[tactic(auto, using(crate::proofs::SoundLaws::run_law))]
 fn run_sound(a: Agent) -> bool
     ensures { result ≡ run_sound a }
 {
@@ -91,6 +96,7 @@ fn run_sound(a: Agent) -> bool
 }
 
 // In fallback: bit 7 of STATUT is 1 and bit 6 is 0; outputs and q are 0.
+#[tactic(auto, using(crate::proofs::SoundLaws::fallback_law))]
 fn fallback_sound(a: Agent) -> bool
     ensures { result ≡ fallback_sound a }
 {
@@ -98,6 +104,7 @@ fn fallback_sound(a: Agent) -> bool
     (a.mode == IN_FALLBACK) & (a.regs[STATUT] & 0xC0 == 0x80) & (a.idle == 0) & zero
 }
 
+#[tactic(auto, using(crate::proofs::SoundLaws::sound_run, crate::proofs::SoundLaws::sound_fallback))]
 pub fn sound(a: Agent) -> bool
     ensures { result ≡ sound a }
 {

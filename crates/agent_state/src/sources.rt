@@ -7,6 +7,7 @@ use crate::state::NOBODY;
 use rules::Agent;
 
 // x is one of the first n.
+#[tactic(auto, using(crate::proofs::SourceLoops::holds_none, crate::proofs::SourceLoops::holds_turn, crate::proofs::SourceLoops::holds_found))]
 fn holds(known: &[u32; 8], n: usize, x: u32) -> bool
     requires { n ≤ 8 }
     ensures { result ≡ holds known.now n x }
@@ -22,6 +23,7 @@ fn holds(known: &[u32; 8], n: usize, x: u32) -> bool
 }
 
 // The first n are distinct, and none of them is FFFFFFh or more: one loop for both.
+#[tactic(auto, using(crate::proofs::SourceLoops::listed_none, crate::proofs::SourceLoops::listed_turn))]
 pub fn listed(known: &[u32; 8], n: usize) -> bool
     requires { n ≤ 8 }
     ensures { result ≡ (distinct known.now n && below24 known.now n) }
@@ -38,6 +40,7 @@ pub fn listed(known: &[u32; 8], n: usize) -> bool
 }
 
 // A sound state records at most 8. For a larger `count` the definition reads 0 past them, and so does this.
+#[tactic(auto, using(crate::proofs::SourceLoops::recorded_many), unfolding(rules::specs::Sources::is_recorded))]
 pub fn is_recorded(a: Agent, x: u32) -> bool
     ensures { result ≡ is_recorded a x }
 {
@@ -48,6 +51,7 @@ pub fn is_recorded(a: Agent, x: u32) -> bool
 }
 
 // Records one more.
+#[tactic(auto, unfolding(rules::specs::Sources::recorded))]
 pub fn recorded(x: u32, a: Agent) -> Agent
     requires { a.count < 8 }
     ensures { result ≡ recorded x a }
@@ -60,6 +64,7 @@ pub fn recorded(x: u32, a: Agent) -> Agent
 }
 
 // The own SID.
+#[tactic(auto, unfolding(rules::specs::Sources::sid_of))]
 pub fn sid_of(a: Agent) -> u32
     ensures { (result ≡ sid_of a) × (result < 2 ^ 24) }
 {

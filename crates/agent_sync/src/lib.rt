@@ -1,5 +1,7 @@
 // What a sync does: a repeat, one whose cycle does not fit, one outside its window, or an accepted one, which may lead to RUN.
 // One function for each rule, as in `rules`. Only the crates of the agent call these.
+#![tactic(auto)]
+
 ghost use Rattle.std.specs.Prelude.{◌≡◌, ◌^◌, ◌<◌};
 ghost use Rattle.rules.specs.Sync.{is_repeat, cycle_fits, heard_sync, synced, on_sync};
 ghost use Rattle.rules.specs.Window.{width, in_window};
@@ -23,6 +25,7 @@ fn is_repeat(a: Agent, src: u32, cyc: u8) -> bool
 }
 
 // A heard cycle accepts CYC = c + 1, an unheard one c or c + 1 (modulo 256).
+#[tactic(auto, unfolding(rules::specs::Sync::cycle_fits))]
 fn cycle_fits(a: Agent, cyc: u8) -> bool
     ensures { result ≡ cycle_fits a cyc }
 {
@@ -31,6 +34,7 @@ fn cycle_fits(a: Agent, cyc: u8) -> bool
 }
 
 // w: t / 8 rounded down, at least 1.
+#[tactic(auto, unfolding(rules::specs::Window::width))]
 fn width(t: u8) -> u8
     ensures { result ≡ width t }
 {
@@ -39,6 +43,7 @@ fn width(t: u8) -> u8
 }
 
 // CYC = c + 1 needs e of at least t − w; CYC = c needs e of at most w.
+#[tactic(auto, using(rules::proofs::Windows::next_is, rules::proofs::Windows::same_is))]
 fn in_window(a: Agent, cyc: u8) -> bool
     ensures { result ≡ in_window a cyc }
 {
@@ -52,6 +57,7 @@ fn in_window(a: Agent, cyc: u8) -> bool
 }
 
 // Accepted: c = CYC, heard, e = s = k = 0, no mark.
+#[tactic(auto, unfolding(rules::specs::Sync::heard_sync))]
 fn heard_sync(src: u32, cyc: u8, a: Agent) -> Agent
     ensures { result ≡ heard_sync src cyc a }
 {
@@ -67,6 +73,7 @@ fn heard_sync(src: u32, cyc: u8, a: Agent) -> Agent
 }
 
 // The same, and in fallback with OUT_REP 55h the mode becomes RUN.
+#[tactic(auto, unfolding(rules::specs::Sync::synced))]
 fn synced(src: u32, cyc: u8, a: Agent) -> Agent
     ensures { result ≡ synced src cyc a }
 {
@@ -79,6 +86,7 @@ fn synced(src: u32, cyc: u8, a: Agent) -> Agent
 }
 
 // 10, then 13 before 12, then 22; 12 and 22 come in RUN only; 12 leads to fallback.
+#[tactic(auto, unfolding(rules::specs::Sync::on_sync))]
 pub fn on_sync(port: u8, a: Agent, src: u32, cyc: u8) -> Deed
     requires { src < 2 ^ 24 }
     ensures { (result ≡ on_sync port a src cyc) × Fitting result.reply }

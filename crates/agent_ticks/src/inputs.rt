@@ -6,6 +6,7 @@ ghost use Rattle.rules.specs.Registers.{image};
 use agent_state::registers::{INPUTS, put_bytes};
 use rules::Agent;
 
+#[tactic(auto, unfolding(rules::specs::Inputs::with_inputs))]
 pub fn with_inputs(xs: &[u8], a: Agent) -> Agent
     requires { length xs.now ≡ image }
     ensures { result ≡ with_inputs xs.now a }

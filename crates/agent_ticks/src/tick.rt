@@ -32,6 +32,7 @@ fn more_idle(mode: u8, q: u16) -> u16
 }
 
 // Add 1 to e and s, and to q in RUN.
+#[tactic(auto, using(crate::proofs::TickLaws::count_law))]
 fn count(a: Agent) -> Agent
     requires { (a.elapsed < 255) × (a.idle < 65535) }
     ensures { result ≡ counted a }
@@ -114,6 +115,7 @@ fn mark_fall(regs: &mut [u8; 256], falls: bool, shown: u8)
 }
 
 // A byte under the mask FFh or 00h.
+#[tactic(auto, using(crate::proofs::TickLaws::mask_law))]
 fn masked(x: u8, keep: u8) -> u8
     requires { (keep ≡ 0xFF) ⊎ (keep ≡ 0x00) }
     ensures { result ≡ choose (keep == 0xFF) x 0 }
@@ -123,6 +125,7 @@ fn masked(x: u8, keep: u8) -> u8
 
 // In RUN the outputs stay, in fallback they are 0: one mask, FFh or 00h, and no branch, so that the compiler sees which
 // registers stay and copies none of them.
+#[tactic(auto, using(crate::proofs::TickLaws::keep_is, crate::proofs::TickLaws::keep_run, crate::proofs::TickLaws::keep_fallback, crate::proofs::TickLaws::masked_run, crate::proofs::TickLaws::masked_fallback, base::proofs::Fills::fill_end))]
 fn mask_outputs(regs: &mut [u8; 256], mode: u8)
     requires { (mode ≡ in_run) ⊎ (mode ≡ in_fallback) }
     ensures { regs.new ≡ choose (mode == in_run) regs.old (sets regs.old outputs_at (replicate image 0)) }
@@ -137,6 +140,7 @@ fn mask_outputs(regs: &mut [u8; 256], mode: u8)
 
 // Fallback at the sync limit, in either mode, or else at the command limit, or else at that of the window; the first is the
 // ground.
+#[tactic(auto, using(crate::proofs::TickLaws::mode_is, crate::proofs::TickLaws::shown_law, crate::proofs::TickLaws::limit_law))]
 fn limit(a: Agent) -> Agent
     requires { Shows a.mode a.regs }
     ensures { result ≡ limited a }
@@ -160,6 +164,7 @@ fn limit(a: Agent) -> Agent
 }
 
 // If e is at least t, the next cycle begins, unheard.
+#[tactic(auto, using(crate::proofs::TickLaws::cycle_on, crate::proofs::TickLaws::cycle_over_lem))]
 fn end_cycle(a: Agent) -> Agent
     ensures { result ≡ cycle_ended a }
 {
@@ -174,6 +179,7 @@ fn end_cycle(a: Agent) -> Agent
     next
 }
 
+#[tactic(auto, using(crate::proofs::TickLaws::tick_law))]
 pub fn tick(a: Agent) -> Agent
     requires { (a.elapsed < 255) × (a.idle < 65535) × Shows a.mode a.regs }
     ensures { result ≡ ticked a }

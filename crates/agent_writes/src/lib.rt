@@ -1,5 +1,7 @@
 // What a write does: which spans, in which mode, with which values, and with what effect.
 // One function for each rule, as in `rules`. Only the crates of the agent call these.
+#![tactic(auto)]
+
 ghost use Rattle.std.specs.Prelude.{◌≡◌, ◌+◌, ◌<◌, ◌≤◌, length, get_or};
 ghost use Rattle.std.proofs.lemmas.List.Edits.{sets};
 ghost use Rattle.rules.specs.State.{store_all};
@@ -16,6 +18,7 @@ use agent_state::state::{IN_RUN, RELEASED, WITHHELD};
 use rules::{Agent, Deed, Span};
 
 // The span in which a register lies.
+#[tactic(auto, using(crate::proofs::WriteLaws::span_below), unfolding(rules::specs::Writes::span_at))]
 fn span_at(add: u8) -> Span
     ensures { result ≡ span_at add }
 {
@@ -46,6 +49,7 @@ fn span_end(span: Span) -> usize
 }
 
 // At least one byte, wholly in one span.
+#[tactic(auto, unfolding(rules::specs::Writes::span_of))]
 fn span_of(add: u8, n: usize) -> Span
     requires { n ≤ 272 }
     ensures { result ≡ span_of add n }
@@ -70,6 +74,7 @@ fn first(xs: &[u8]) -> u8
 }
 
 // The value of register `at` once `xs` is stored from register `add`.
+#[tactic(auto, using(base::proofs::Stored::stored_before, base::proofs::Stored::stored_reached, base::proofs::Stored::stored_behind))]
 fn register_after(regs: &[u8; 256], add: usize, xs: &[u8], at: usize) -> u8
     requires { (at < 256) × (length regs.now ≡ 256) }
     ensures { result ≡ get_or (sets regs.now add xs.now) at 0 }
@@ -152,6 +157,7 @@ fn written(span: Span, a: Agent, add: u8, xs: &[u8]) -> Agent
     }
 }
 
+#[tactic(auto, using(crate::proofs::WriteLaws::allowed_room), unfolding(rules::specs::Writes::on_write))]
 pub fn on_write(a: Agent, add: u8, xs: &[u8]) -> Deed
     requires { length xs.now ≤ 272 }
     ensures { (result ≡ on_write a add xs.now) × Fitting result.reply }

@@ -1,4 +1,6 @@
 // What more than one crate needs: definitions and laws about lists, bytes and tests (specs/ and proofs/), and the copying of bytes.
+#![tactic(auto)]
+
 ghost use Rattle.std.specs.Prelude.{◌≡◌, ◌+◌, ◌≤◌, length};
 ghost use Rattle.std.proofs.lemmas.List.Edits.{sets};
 

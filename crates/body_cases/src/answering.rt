@@ -11,6 +11,7 @@ use frame_words::texts;
 use frame_words::texts::Text;
 
 // The number and, with 0, the address and the application data.
+#[tactic(auto, using(crate::proofs::BodyLaws::read_refused))]
 fn read(s: &[u8]) -> Text
     ensures { Says result (read_bytes (answer_to_body s.now)) }
 {
@@ -27,6 +28,7 @@ fn read(s: &[u8]) -> Text
     texts::add(t, &bytes[..k])
 }
 
+#[tactic(auto, using(cases::proofs::LayingLaws::laid_says))]
 fn lay_into(buf: &mut [u8], addr: u8, data: &[u8]) -> Text
     requires { length buf.old ≤ 600 }
     ensures { Says result (laid_into buf.old addr «data».now) }
@@ -36,6 +38,7 @@ fn lay_into(buf: &mut [u8], addr: u8, data: &[u8]) -> Text
 }
 
 // Room (2 bytes), address, application data.
+#[tactic(auto, using(crate::proofs::BodyLaws::lay_short, crate::proofs::BodyLaws::lay_wide, crate::proofs::BodyLaws::lay_laid))]
 fn lay(s: &[u8]) -> Text
     ensures { Says result (lay_answer s.now) }
 {
@@ -50,6 +53,7 @@ fn lay(s: &[u8]) -> Text
     lay_into(&mut buf[..room], byte_field(s, 2), &s[3..])
 }
 
+#[tactic(auto, using(cases::proofs::AnswerLaws::says_first, cases::proofs::AnswerLaws::says_second, cases::proofs::AnswerLaws::says_other), unfolding(crate::specs::Answers::body_answers))]
 fn answer(op: u8, s: &[u8]) -> Text
     ensures { Says result (body_answers op s.now) }
 {
@@ -63,6 +67,7 @@ fn answer(op: u8, s: &[u8]) -> Text
 }
 
 // The answer to a line of `len` characters, of which the buffer keeps the first.
+#[tactic(auto, using(cases::proofs::RunningLaws::line_none, cases::proofs::RunningLaws::line_some))]
 pub fn answer_line(line: &[u8], len: usize) -> Text
     ensures { Says result (answer_to body_answers (case_in line.now len)) }
 {

@@ -9,6 +9,7 @@ use frame_kinds::kinds::Frame;
 pub const LAST_KIND: u8 = 0x0C;
 
 // How many bytes the fields of a kind have; 0 past the last kind.
+#[tactic(auto, using(crate::proofs::KindLaws::length_most, crate::proofs::KindLaws::none_past))]
 pub fn fields_len(kind: u8) -> usize
     ensures { (result ≡ fields_len kind) × (result ≤ 28) }
 {
@@ -170,6 +171,7 @@ fn invariants(s: &[u8]) -> Frame
 }
 
 // The frame of a kind with the fields in a slice.
+#[tactic(auto, unfolding(crate::specs::Kinds::frame_at))]
 pub fn frame_at(kind: u8, s: &[u8]) -> Frame
     ensures { result ≡ frame_at kind s.now }
 {

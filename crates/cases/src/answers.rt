@@ -20,6 +20,7 @@ fn no_bytes() -> [u8; 2048]
 }
 
 // The bytes of a line: none if it has over 1,200 characters, or is not pairs of hex digits.
+#[tactic(auto, using(crate::proofs::CaseLaws::case_long, crate::proofs::CaseLaws::none_in))]
 fn case_of(line: &[u8]) -> Text
     ensures { text_in result ≡ case_of line.now }
 {
@@ -35,6 +36,7 @@ fn case_of(line: &[u8]) -> Text
 }
 
 // The same for a line of `len` characters, of which the buffer keeps the first.
+#[tactic(auto, using(crate::proofs::CaseLaws::none_in), unfolding(crate::specs::Cases::case_in))]
 pub fn case_in(line: &[u8], len: usize) -> Text
     ensures { text_in result ≡ case_in line.now len }
 {
@@ -45,7 +47,7 @@ pub fn case_in(line: &[u8], len: usize) -> Text
 }
 
 // An answer as text: room for 2,048 bytes in hex digits, and the LF.
-#[derive(Drop)]
+#[derive(Clone, Copy)]
 struct Line {
     bytes: [u8; 4097],
     len: usize,
@@ -57,6 +59,7 @@ fn no_characters() -> [u8; 4097]
     [0; 4097]
 }
 
+#[tactic(auto, using(crate::proofs::AnswerLaws::answer_bad))]
 fn answer_text(t: Text) -> Line
     ensures { take result.len result.bytes ≡ answer_text (text_in t) }
 {

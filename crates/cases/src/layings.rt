@@ -15,6 +15,7 @@ use laying::Laid;
 pub const MOST: usize = 600;
 
 // Byte i is i modulo 251.
+#[tactic(auto, unfolding(crate::specs::Layings::pattern))]
 pub fn pattern() -> [u8; 600]
     ensures { result ≡ Layings·pattern }
 {
@@ -40,6 +41,7 @@ fn sent_len(laid: Laid) -> usize
 }
 
 // Adds a number in two bytes, high byte first.
+#[tactic(auto, unfolding(base::specs::Bytes::bytes_of))]
 pub fn add_word(t: Text, n: usize) -> Text
     ensures { result ≡ put t (bytes_of 2 n) }
 {

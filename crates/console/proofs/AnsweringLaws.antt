@@ -15,7 +15,7 @@ use Rattle.console.specs.Programs.{Program, next_all, says_all, answers, transcr
 use Rattle.console.specs.Cursors.{began, answered, told}
 use Rattle.console.specs.Handing.{Handed}
 use Rattle.console.specs.Reading.{block, rest, last, some, between, Goes, Next}
-use Rattle.console.specs.Answering.{Stands, Answers, Spoken, Whole, Quiet}
+use Rattle.console.specs.Answering.{Stands, Answers, Spoken, Whole, Quiet, Left}
 use Rattle.console.specs.declared.lines.Cursor.{Cursor}
 use Rattle.console.proofs.LinesLaws.{joined_append, lines_line, lines_last, lines_none}
 
@@ -290,3 +290,7 @@ module _ {S : Type 0} (P : Program S) where
       pub stopped : (out' : List ℕ) (to' : ℕ) → c.to + length (P.ends s) ≤ length out → to' ≡ place_after (length out) c.to (P.ends s)
           → out' ≡ put_at out c.to (P.ends s) → x.handed ++ take to' out' ≡ transcript P (joined x.before ++ (block c buffer ++ xs))
       stopped out' to' h p r = ends_behind s input x.handed out c.to out' to' stopped_text stopped_state h p r
+
+-- ---- what an error leaves
+pub stands_left : {S : Type 0} (P : Program S) (s : S) (buffer out : List ℕ) (c : Cursor) → Stands P s buffer out c → Left P out
+stands_left P s buffer out c x = record { lines = x.lines; handed = x.handed; to = c.to; text = x.text }

@@ -42,3 +42,10 @@ pub record Whole {S : Type 0} (P : Program S) (buffer out : List ℕ) (c : Curso
 pub record Quiet {S : Type 0} (P : Program S) (s : S) : Type 0 where
   pub stays : (chars : List ℕ) → P.next s chars ≡ s
   pub silent : (chars : List ℕ) → P.says s chars ≡ []
+
+-- what an error of the input or the output leaves: the text of the lines that were answered before it was handed on, or is in the output
+pub record Left {S : Type 0} (P : Program S) (out : List ℕ) : Type 0 where
+  pub lines : List (List ℕ)
+  pub handed : List ℕ
+  pub to : ℕ
+  pub text : handed ++ take to out ≡ P.first ++ says_all P P.start lines

@@ -1,5 +1,5 @@
 // The lines of standard input, one after another, wherever the input is cut into blocks.
-ghost use Rattle.std.specs.Prelude.{◌≡◌, length};
+ghost use Rattle.std.specs.Prelude.{◌≡◌, length, IfOk};
 ghost use Rattle.std.proofs.lemmas.List.Edits.{sets};
 ghost use Rattle.text.specs.Lines.{line_end_of, before_end};
 ghost use Rattle.console.specs.Cursors.{began, told};
@@ -11,12 +11,14 @@ ghost use Rattle.console.specs.Reading.{rest, block as Reading·block, Filled, N
 
 use crate::blocks;
 use crate::blocks::Place;
+use std::io;
+use std::io::{Read, Write};
 use text::lines;
 use text::lines::LineEnd;
 
 // How far a program is in its input and output: the index in the block, the length of the block, the count of the
 // line's characters, the index in the output; whether there is a whole line, and whether the input has ended.
-#[derive(Drop)]
+#[derive(Clone, Copy)]
 pub struct Cursor {
     pub at: usize,
     pub end: usize,
@@ -84,11 +86,11 @@ fn filled(c: Cursor, n: usize) -> Cursor
 }
 
 // Reads another block.
-fn fill(block: &mut [u8; 65536], c: Cursor) -> Cursor
-    ensures { Filled c result }
+fn fill<R: Read>(input: &mut R, block: &mut [u8; 65536], c: Cursor) -> io::Result<Cursor>
+    ensures { IfOk result (λ r. Filled c r) }
 {
-    let n = blocks::read_block(block);
-    filled(c, n)
+    let n = blocks::read_block(input, block)?;
+    Ok(filled(c, n))
 }
 
 // A block gave the rest of a line, or all that it had.
@@ -134,37 +136,38 @@ fn done(c: Cursor) -> bool
 // there is no line, and the input has ended; or neither, if the output is closed. Before it waits for more input, the
 // text so far is handed on. A proved loop has to end, and nothing says that the input does: so the loop counts down
 // from a number that no run uses up.
-pub fn next_line(
+#[tactic(auto, using(crate::proofs::ReadingLaws::goes_first, crate::proofs::ReadingLaws::first_room, crate::proofs::ReadingLaws::next_stopped))]
+pub fn next_line<R: Read, W: Write>(
+    input: &mut R,
+    output: &mut W,
     block: &mut [u8; 65536],
     line: &mut [u8; 1200],
     out: &[u8; 16384],
     c: Cursor,
-) -> Cursor
-    ensures { Next block.old out.now c block.new line.new result }
+) -> io::Result<Cursor>
+    ensures { IfOk result (λ r. Next block.old out.now c block.new line.new r) }
 {
-    let Place::At(to) = blocks::make_room(out, c.to) else {
-        return stopped(c);
+    let Place::At(to) = blocks::make_room(output, out, c.to)? else {
+        return Ok(stopped(c));
     };
     let mut k = placed(c, to);
-    let mut turns = u64::MAX;
-    while turns > 0 {
+    for _ in 0..u64::MAX {
         if done(k) {
-            return k;
+            return Ok(k);
         }
-        turns -= 1;
         if k.at < k.end {
             k = take_part(block, line, k);
             continue;
         }
-        if !blocks::write_first(out, k.to) {
-            return stopped(k);
+        if !blocks::write_first(output, out, k.to)? {
+            return Ok(stopped(k));
         }
-        k = fill(block, k);
+        k = fill(input, block, k)?;
     }
-    stopped(k)
+    Ok(stopped(k))
 }
 
 // Writes the text that is still in the output; returns whether it was written.
-pub fn close(out: &[u8; 16384], c: Cursor) -> bool {
-    blocks::write_first(out, c.to)
+pub fn close<W: Write>(output: &mut W, out: &[u8; 16384], c: Cursor) -> io::Result<bool> {
+    blocks::write_first(output, out, c.to)
 }

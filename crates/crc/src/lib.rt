@@ -1,5 +1,7 @@
 // The two CRCs of the bus: the frame check sequence (FCS) and the safety CRC. Both start at FFFFh, process the most
 // significant bit first and have no final change.
+#![tactic(auto)]
+
 ghost use Rattle.std.specs.Prelude.{◌≡◌, ◌∷◌, ℕ, get_or};
 ghost use Rattle.crc.specs.Crc.{poly_of, crc_byte, crc_from, crc_of};
 ghost use Rattle.crc.specs.Table.{table_of};
@@ -8,7 +10,7 @@ use crate::tables::{fcs_table, safety_table};
 
 mod tables;
 
-#[derive(Drop)]
+#[derive(Clone, Copy)]
 pub enum Poly {
     Fcs,
     Safety,
@@ -25,6 +27,7 @@ fn entry(table: &[u16; 256], n: u8) -> u16
 
 // One byte, by a polynomial's table: the register's low byte moves up, and the entry for its high byte and the byte is added
 // (exclusive or).
+#[tactic(auto, using(crate::proofs::Table::step_by_table))]
 fn shift_byte(crc: u16, byte: u8, table: &[u16; 256]) -> u16
     ensures { (p : ℕ) → table.now ≡ table_of p → result ≡ crc_byte p crc byte }
 {
@@ -32,6 +35,7 @@ fn shift_byte(crc: u16, byte: u8, table: &[u16; 256]) -> u16
 }
 
 // The bytes of a slice, by the same table.
+#[tactic(auto, using(crate::proofs::Laws::of_turn, crate::proofs::Laws::of_end))]
 fn shift_bytes(register: u16, s: &[u8], table: &[u16; 256]) -> u16
     ensures { (p : ℕ) → table.now ≡ table_of p → result ≡ crc_from p register s.now }
 {
@@ -61,6 +65,7 @@ pub fn crc_from(poly: Poly, register: u16, s: &[u8]) -> u16
 }
 
 // The CRC of a slice.
+#[tactic(auto, unfolding(crate::specs::Crc::crc_of))]
 pub fn crc_of(poly: Poly, s: &[u8]) -> u16
     ensures { result ≡ crc_of poly s.now }
 {
@@ -68,6 +73,7 @@ pub fn crc_of(poly: Poly, s: &[u8]) -> u16
 }
 
 // The CRC of one byte and a slice after it: of a body, the address and the data.
+#[tactic(auto, unfolding(crate::specs::Crc::crc_of, crate::specs::Crc::crc_from))]
 pub fn crc_headed(poly: Poly, head: u8, s: &[u8]) -> u16
     ensures { result ≡ crc_of poly (head ∷ s.now) }
 {

@@ -9,6 +9,7 @@ use crc::Poly;
 use frame_words::texts;
 use frame_words::texts::Text;
 
+#[tactic(auto, using(cases::proofs::AnswerLaws::says_other), unfolding(crate::specs::Answers::crc_answers))]
 fn answer(op: u8, s: &[u8]) -> Text
     ensures { Says result (crc_answers op s.now) }
 {
@@ -22,6 +23,7 @@ fn answer(op: u8, s: &[u8]) -> Text
 }
 
 // The answer to a line of `len` characters, of which the buffer keeps the first.
+#[tactic(auto, using(cases::proofs::RunningLaws::line_none, cases::proofs::RunningLaws::line_some))]
 pub fn answer_line(line: &[u8], len: usize) -> Text
     ensures { Says result (answer_to crc_answers (case_in line.now len)) }
 {

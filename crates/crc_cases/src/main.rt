@@ -1,7 +1,11 @@
 // Cases of CRCs: one on each line of standard input, its answer on standard output.
+#![tactic(auto)]
+
+use std::io;
+
 mod answering;
 mod running;
 
-fn main() {
-    running::run();
+fn main(rt: HostRuntime) -> io::Result<()> {
+    running::run(&mut rt.stdin(), &mut rt.stdout())
 }

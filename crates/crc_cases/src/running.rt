@@ -1,6 +1,6 @@
 // Standard input, line by line, to standard output.
-ghost use Rattle.std.specs.Prelude.{◌≡◌, true};
-ghost use Rattle.console.specs.Answering.{Whole};
+ghost use Rattle.std.specs.Prelude.{◌≡◌, true, IfOk, OnErr};
+ghost use Rattle.console.specs.Answering.{Whole, Left};
 ghost use Rattle.cases.specs.Cases.{answering};
 ghost use Rattle.crc_cases.specs.Answers.{crc_answers};
 
@@ -8,28 +8,38 @@ use crate::answering::answer_line;
 use cases::answers::put_answer;
 use console::lines::Cursor;
 use console::{blocks, lines};
+use std::io;
+use std::io::{Read, Write};
 
 // The answers to all lines. They are handed on when the output is full; the last of them are still in the output on return.
-fn answer_all(block: &mut [u8; 65536], line: &mut [u8; 1200], out: &mut [u8; 16384]) -> Cursor
-    ensures { result.ended ≡ true → Whole (answering crc_answers) block.new out.new result }
+// An error of the input or the output ends the work; the last answers may then be in the output, and the cursor is gone.
+#[tactic(auto, using(console::proofs::AnsweringLaws::stands_left))]
+fn answer_all<R: Read, W: Write>(
+    input: &mut R,
+    output: &mut W,
+    block: &mut [u8; 65536],
+    line: &mut [u8; 1200],
+    out: &mut [u8; 16384],
+) -> io::Result<Cursor>
+    ensures ok { IfOk result (λ c. c.ended ≡ true → Whole (answering crc_answers) block.new out.new c) }
+    ensures err { OnErr result (Left (answering crc_answers) out.new) }
 {
     let mut c = lines::begin(0);
-    let mut turns = u64::MAX;
-    while turns > 0 {
-        c = lines::next_line(block, line, out, c);
+    for _ in 0..u64::MAX {
+        c = lines::next_line(input, output, block, line, out, c)?;
         if !c.whole {
-            return c;
+            return Ok(c);
         }
         c.to = put_answer(answer_line(line, c.len), out, c.to);
-        turns -= 1;
     }
-    c
+    Ok(c)
 }
 
-pub fn run() {
-    let mut block = io::large_buffer();
+pub fn run<R: Read, W: Write>(input: &mut R, output: &mut W) -> io::Result<()> {
+    let mut block = blocks::no_input();
     let mut line = text::lines::no_line();
     let mut out = blocks::no_output();
-    let c = answer_all(&mut block, &mut line, &mut out);
-    lines::close(&out, c);
+    let c = answer_all(input, output, &mut block, &mut line, &mut out)?;
+    lines::close(output, &out, c)?;
+    Ok(())
 }

@@ -5,7 +5,6 @@ use mathlib.Core.List.{List, [], ◌∷◌, ◌++◌}
 use mathlib.Core.Option.{some}
 use Prim.Native.Nat.{ℕ}
 use lib.Count.{ones, ones_in}
-use lib.ListN.{replicate, get_or}
 use Rattle.base.specs.Bytes.{bytes_of, number_at}
 use Rattle.crc.specs.Crc.{top_bit, crc_bit, crc_bits, crc_byte, crc_from, crc_of}
 use Rattle.stuffing.specs.Stuffing.{meaning_of, unstuff_from, unstuff}

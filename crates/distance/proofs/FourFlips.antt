@@ -6,7 +6,7 @@ use mathlib.Core.Option.{some}
 use Prim.Native.Nat.{ℕ, ◌+◌}
 use native.Mathlib.Omega.{arith}
 use lib.Count.{ones, ones_in}
-use lib.ListN.{length, replicate, get_or}
+use lib.ListN.{length, get_or}
 use Rattle.base.specs.Bytes.{Bytes, bytes_of, number_at}
 use Rattle.base.proofs.Bytes.{bytes_written}
 use Rattle.crc.specs.Crc.{top_bit, crc_bit, crc_bits, crc_byte, crc_from, crc_of}
@@ -16,7 +16,6 @@ use Rattle.wire.specs.declared.Verdict.TheVariants.{Valid}
 use Rattle.fields.specs.Fields.{laid}
 use Rattle.frame_kinds.specs.Kinds.{data_place}
 use Rattle.frame_kinds.specs.declared.kinds.Frame.{Frame}
-use Rattle.frame_kinds.specs.declared.kinds.Frame.TheVariants.{SafeWrite}
 use Rattle.frame_forms.specs.Forms.{safe_ok, safe_read, safe_write_request, read_safe_request}
 use Rattle.frame_reading.specs.Reading.{read_typ, read_app, received_body, read_frame, received_answer}
 use Rattle.burst.specs.Damage.{flips}

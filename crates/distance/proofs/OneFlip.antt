@@ -16,7 +16,6 @@ use Rattle.wire.specs.Body.{reserved_addr, fcs_of, checked_body, unstuffed_body,
 use Rattle.fields.specs.Fields.{laid}
 use Rattle.frame_kinds.specs.Kinds.{data_place}
 use Rattle.frame_kinds.specs.declared.kinds.Frame.{Frame}
-use Rattle.frame_kinds.specs.declared.kinds.Frame.TheVariants.{SafeResponse}
 use Rattle.frame_forms.specs.Forms.{safe_ok, safe_read, safe_com, read_safe_response}
 use Rattle.frame_reading.specs.Reading.{read_typ, read_app, received_body, read_frame, received_answer}
 use Rattle.burst.specs.Damage.{flips}

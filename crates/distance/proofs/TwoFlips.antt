@@ -7,7 +7,7 @@ use mathlib.Core.Option.{some}
 use Prim.Native.Nat.{ℕ}
 use native.Mathlib.Omega.{arith}
 use lib.Count.{ones, ones_in}
-use lib.ListN.{replicate, get_or}
+use lib.ListN.{get_or}
 use Rattle.base.specs.Bytes.{bytes_of, number_at}
 use Rattle.base.proofs.Bytes.{bytes_written}
 use Rattle.crc.specs.Crc.{top_bit, crc_bit, crc_bits, crc_byte, crc_from, crc_of}

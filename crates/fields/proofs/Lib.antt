@@ -1,4 +1,2 @@
-mod TakenApart
-mod Opening
 pub mod Widths
 pub mod Tables

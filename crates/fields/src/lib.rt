@@ -1,11 +1,13 @@
 // The fields of received application data: numbers of 1 to 8 bytes, high byte first, read through one reader. A byte
 // past the end reads as 0, so every read has a value.
+#![tactic(auto)]
+
 ghost use Rattle.std.specs.Prelude.{◌≡◌, ◌+◌, ◌^◌, ◌<◌, take, drop, get_or};
 ghost use Rattle.base.specs.Bytes.{number_at};
 ghost use Rattle.fields.specs.Fields.{width8};
 
 // The reader: the unstuffed application data and an index into them.
-#[derive(Drop)]
+#[derive(Clone, Copy)]
 pub struct Reader<'a> {
     pub src: &'a [u8],
     pub at: usize,
@@ -25,6 +27,7 @@ fn byte_behind(s: &[u8], at: usize, off: usize) -> u8
 }
 
 // The core of the reader: the number in `width` bytes, at most 8, starting at index `at`.
+#[tactic(auto, using(base::proofs::Numbers::number_more, base::proofs::Numbers::more_below, crate::proofs::Widths::width_small, crate::proofs::Widths::width_large, crate::proofs::Widths::width_most), unfolding(base::specs::Bytes::number_at))]
 fn number_at(s: &[u8], at: usize, width: usize) -> u64
     ensures { (result ≡ number_at s.now at (width8 width)) × (result < 256 ^ width8 width) }
 {

@@ -1,6 +1,8 @@
 // The firmware's interface: the firmware owns the agent, and each call alters it in place. Thin functions over the
 // calls by value; include/saturn.h is the header for C. Demand 3, with what 26h and the terminals show, is a clause of each contract:
 // power-up begins a history, and each call continues every history that ended in the agent passed to it.
+#![tactic(auto)]
+
 ghost use Rattle.std.specs.Prelude.{◌≡◌, length};
 ghost use Rattle.rules.specs.Calls.{tick, frame, tick_call, frame_call, Answers, AnswersFrame};
 ghost use Rattle.rules.specs.Fixed.{fixed_by};
@@ -11,16 +13,15 @@ use agent_state::answers::ACCEPTED;
 use rules::Agent;
 
 // Power-up with MAC, IID, VER and the limit of requests a cycle.
-#[unsafe(no_mangle)]
-pub extern "C" fn saturn_power_up(agent: &mut Agent, mac: u64, iid: u64, ver: u16, limit: u8)
+#[tactic(auto, using(demand3::proofs::ReachedLaws::begins))]
+pub fn saturn_power_up(agent: &mut Agent, mac: u64, iid: u64, ver: u16, limit: u8)
     ensures { (agent.new ≡ power_up mac iid ver (fixed_by limit)) × Begins (fixed_by limit) agent.new }
 {
     *agent = agent::power_up::power_up(mac, iid, ver, limit);
 }
 
 // One millisecond, with the 64 inputs. A call that is refused leaves the agent untouched.
-#[unsafe(no_mangle)]
-pub extern "C" fn saturn_tick(agent: &mut Agent, inputs: &[u8]) -> u8
+pub fn saturn_tick(agent: &mut Agent, inputs: &[u8]) -> u8
     ensures { Answers (tick_call agent.old inputs.now) result agent.new
         × Continues agent.old (tick inputs.now) result agent.new }
 {
@@ -33,8 +34,7 @@ pub extern "C" fn saturn_tick(agent: &mut Agent, inputs: &[u8]) -> u8
 }
 
 // A body received on a port, and the reply buffer, whose bytes past what is sent keep their value.
-#[unsafe(no_mangle)]
-pub extern "C" fn saturn_frame(
+pub fn saturn_frame(
     agent: &mut Agent,
     port: u8,
     body: &[u8],

@@ -1,4 +1,6 @@
 // A frame by its fields, or a body: what is built or explained is added to `start`; or the first thing that is wrong.
+#![tactic(auto)]
+
 ghost use Rattle.std.specs.Prelude.{◌≡◌, ◌≤◌, length};
 ghost use Rattle.frame_asking.specs.Outcome.{at_end, with_data, by_kind, by_body, outcome_of};
 ghost use Rattle.frame_asking.specs.Outcome.{said as Outcome·said};
@@ -14,6 +16,7 @@ use text::hex;
 use text::hex::Hex;
 
 // The frame, if nothing follows its last field.
+#[tactic(auto, using(crate::proofs::OutcomeLaws::end_here))]
 fn at_end(
     number: &[u8],
     start: Text,
@@ -32,6 +35,7 @@ fn at_end(
 }
 
 // The data of a kind that has them: at most half as many bytes as the line has characters.
+#[tactic(auto, using(text::proofs::HexLaws::read_within))]
 fn with_data(number: &[u8], start: Text, line: &[u8], at: usize, kind: Kind, v: [u64; 8]) -> Text
     requires { length line.now ≤ 1200 }
     ensures { result ≡ Outcome·said number.now start (with_data line.now at kind v) }
@@ -68,6 +72,7 @@ fn by_kind(number: &[u8], start: Text, line: &[u8], at: usize, kind: Kind) -> Te
 }
 
 // A space and pairs of hex digits, after `body`.
+#[tactic(auto, using(text::proofs::HexLaws::read_within))]
 fn by_body(number: &[u8], start: Text, line: &[u8], at: usize) -> Text
     requires { length line.now ≤ 1200 }
     ensures { result ≡ Outcome·said number.now start (by_body line.now at) }

@@ -4,8 +4,6 @@ use mathlib.Core.Bool.{true, false, ◌||◌}
 use mathlib.Core.List.{List, [], ◌∷◌, ◌++◌, append-nil}
 use Prim.Native.Nat.{ℕ, ◌+◌, ◌-◌, ◌≤◌, ◌<◌}
 use native.Mathlib.Omega.{arith}
-use types.Run.{OneOf, miss}
-use denote.Enum.Declared.{tag_of}
 use borrow.Author.Tests.{lt-ltb, le-ltb, ltb-false}
 use lib.Dec.{ltb}
 use lib.ListN.{length, take, drop, length-take, length-drop, length-append}
@@ -22,7 +20,6 @@ use Rattle.frame_kinds.specs.declared.kinds.Frame.{Frame}
 use Rattle.frame_reading.specs.declared.Reading.{Reading}
 use Rattle.frame_reading.specs.declared.Reading.TheVariants as reading
 use Rattle.frame_reading.specs.declared.Received.{Received}
-use Rattle.frame_reading.specs.contracts.Reading as reading-type
 use Rattle.frame_words.specs.Texts.{no_text, put, puts}
 use Rattle.frame_words.specs.declared.texts.Text.{Text}
 use Rattle.cases.specs.Cases.{Says}
@@ -33,11 +30,8 @@ use Rattle.case_fields.proofs.KindLaws.{rows}
 use Rattle.frame_cases.specs.Answers.{read_bytes, written_into, write_answer}
 
 -- ---- a body that is refused
-abbrev Refusals : List ℕ
-Refusals = 1 ∷ 2 ∷ 3 ∷ 4 ∷ 5 ∷ 6 ∷ 7 ∷ 8 ∷ []
-
-refused : (x : Reading) (s : List ℕ) → OneOf Refusals (tag_of reading-type.the_type x) → reading_number x ∷ [] ≡ read_bytes (reading_answer x s)
-refused (reading.Valid a f) s k = absurd (miss Refusals 0 tt k)
+refused : (x : Reading) (s : List ℕ) → ((a : ℕ) (f : Frame) → x ≡ reading.Valid a f → ⊥) → reading_number x ∷ [] ≡ read_bytes (reading_answer x s)
+refused (reading.Valid a f) s k = absurd (k a f refl)
 refused reading.Length s k = refl
 refused reading.Stuffing s k = refl
 refused reading.Size s k = refl
@@ -48,7 +42,7 @@ refused reading.Form s k = refl
 refused reading.Check s k = refl
 
 module _ (r : Received) (o : Answer (ℕ × Frame × List ℕ)) (e : received_answer r ≡ o) (n : ℕ) (p : n ≡ reading_number r.reading) (t : Text) where
-  pub read_refused : OneOf Refusals (tag_of reading-type.the_type r.reading) → t ≡ put no_text (n ∷ []) → Says t (read_bytes o)
+  pub read_refused : ((a : ℕ) (f : Frame) → r.reading ≡ reading.Valid a f → ⊥) → t ≡ put no_text (n ∷ []) → Says t (read_bytes o)
   read_refused k q =
       let w : n ∷ [] ≡ read_bytes o = ap (λ (m : ℕ). m ∷ []) p ∙ refused r.reading (take r.len r.bytes) k ∙ ap read_bytes e in
       says_pieces ((n ∷ []) ∷ []) (read_bytes o) t q w (omega (arith, ap length w))

@@ -15,6 +15,7 @@ use frame_words::texts;
 use frame_words::texts::Text;
 
 // The number and, with 0, the address, the kind, its fields and the data.
+#[tactic(auto, using(crate::proofs::FrameLaws::read_refused))]
 fn read(s: &[u8]) -> Text
     ensures { Says result (read_bytes (answer_to_frame s.now)) }
 {
@@ -33,6 +34,7 @@ fn read(s: &[u8]) -> Text
     )
 }
 
+#[tactic(auto, using(cases::proofs::LayingLaws::laid_says))]
 fn write_into(buf: &mut [u8], addr: u8, f: Frame, data: &[u8]) -> Text
     requires { length buf.old ≤ 600 }
     ensures { Says result (written_into buf.old addr f «data».now) }
@@ -42,6 +44,7 @@ fn write_into(buf: &mut [u8], addr: u8, f: Frame, data: &[u8]) -> Text
 }
 
 // Room (2 bytes), address, kind, fields, data. A line that has no kind is too short for the fields of kind 0.
+#[tactic(auto, using(crate::proofs::FrameLaws::within, crate::proofs::FrameLaws::write_none, crate::proofs::FrameLaws::write_short, crate::proofs::FrameLaws::write_written))]
 fn write(s: &[u8]) -> Text
     ensures { Says result (write_answer s.now) }
 {
@@ -59,6 +62,7 @@ fn write(s: &[u8]) -> Text
     write_into(&mut buf[..room], byte_field(s, 2), f, &s[from..])
 }
 
+#[tactic(auto, using(cases::proofs::AnswerLaws::says_first, cases::proofs::AnswerLaws::says_second, cases::proofs::AnswerLaws::says_other), unfolding(crate::specs::Answers::frame_answers))]
 fn answer(op: u8, s: &[u8]) -> Text
     ensures { Says result (frame_answers op s.now) }
 {
@@ -72,6 +76,7 @@ fn answer(op: u8, s: &[u8]) -> Text
 }
 
 // The answer to a line of `len` characters, of which the buffer keeps the first.
+#[tactic(auto, using(cases::proofs::RunningLaws::line_none, cases::proofs::RunningLaws::line_some))]
 pub fn answer_line(line: &[u8], len: usize) -> Text
     ensures { Says result (answer_to frame_answers (case_in line.now len)) }
 {

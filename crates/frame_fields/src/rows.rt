@@ -11,13 +11,14 @@ use text::hex;
 use text::hex::Hex;
 
 // A field's number and the index after its word; or the word is missing or not the one wanted.
-#[derive(Drop)]
+#[derive(Clone, Copy)]
 pub enum Value {
     Number(u64, usize),
     Wrong,
 }
 
 // The number in the hex digits from index `from` of a word to its end, if there are `digits` of them.
+#[tactic(auto, using(text::proofs::HexLaws::read_within, crate::proofs::RowLaws::value_not, crate::proofs::RowLaws::value_room))]
 fn value_of(word: &[u8], from: usize, digits: u8, next: usize) -> Value
     ensures { result ≡ value_in digits next (hex_pairs (drop from word.now)) }
 {
@@ -30,6 +31,7 @@ fn value_of(word: &[u8], from: usize, digits: u8, next: usize) -> Value
 }
 
 // The number in the first `n` bytes, if they come from `digits` hex digits.
+#[tactic(auto, using(crate::proofs::RowLaws::number_other, crate::proofs::RowLaws::number_right))]
 fn number_in(bytes: &[u8], n: usize, digits: u8, next: usize) -> Value
     requires { n ≤ 8 }
     ensures { result ≡ number_in bytes.now n digits next }
@@ -41,6 +43,7 @@ fn number_in(bytes: &[u8], n: usize, digits: u8, next: usize) -> Value
 }
 
 // The number in a word, if the word is `name` and then `digits` hex digits.
+#[tactic(auto, using(crate::proofs::RowLaws::field_other, crate::proofs::RowLaws::field_named))]
 fn field_value(name: &[u8], digits: u8, word: &[u8], next: usize) -> Value
     ensures { result ≡ field_value name.now digits word.now next }
 {
@@ -51,6 +54,7 @@ fn field_value(name: &[u8], digits: u8, word: &[u8], next: usize) -> Value
 }
 
 // The same for the word after the space at index `at`.
+#[tactic(auto, using(frame_words::proofs::WordLaws::word_within, crate::proofs::RowLaws::field_missing, crate::proofs::RowLaws::field_there))]
 fn field_at(line: &[u8], at: usize, name: &[u8], digits: u8) -> Value
     ensures { result ≡ field_at line.now at name.now digits }
 {
@@ -63,6 +67,7 @@ fn field_at(line: &[u8], at: usize, name: &[u8], digits: u8) -> Value
 }
 
 // The same for field `i` of a form.
+#[tactic(auto, using(frame_words::proofs::WordLaws::word_within, frame_words::proofs::WordLaws::word_part))]
 fn field_of(line: &[u8], at: usize, form: Form, i: usize) -> Value
     requires { i < 8 }
     ensures { result ≡ field_at line.now at (word_at form.names (i * 8)) (get_or form.digits i 0) }
@@ -75,13 +80,14 @@ fn field_of(line: &[u8], at: usize, form: Form, i: usize) -> Value
 }
 
 // The numbers of the fields that were read, the index after them, and how many they are.
-#[derive(Drop)]
+#[derive(Clone, Copy)]
 pub struct Row {
     pub values: [u64; 8],
     pub at: usize,
     pub count: usize,
 }
 
+#[tactic(auto, using(crate::proofs::RowLaws::row_end, crate::proofs::RowLaws::row_wrong, crate::proofs::RowLaws::row_number))]
 fn read_form(line: &[u8], at: usize, form: Form) -> Row
     requires { form.count ≤ 8 }
     ensures { result ≡ read_fields (fields_in form) line.now at 0 (replicate 8 0) }
@@ -121,6 +127,7 @@ pub fn read_fields(line: &[u8], at: usize, kind: Kind) -> Row
 }
 
 // Puts the bytes of a word that starts with data= at the buffer's start.
+#[tactic(auto, using(crate::proofs::RowLaws::data_other, crate::proofs::RowLaws::data_named))]
 fn data_word(word: &[u8], out: &mut [u8]) -> Hex
     ensures { (result ≡ hex_of (length out.old) (data_word word.now)) × (out.new ≡ hex_left (data_word word.now) out.old) }
 {
@@ -131,6 +138,7 @@ fn data_word(word: &[u8], out: &mut [u8]) -> Hex
 }
 
 // The same for the word after the space at index `at`.
+#[tactic(auto, using(frame_words::proofs::WordLaws::word_within, crate::proofs::RowLaws::data_missing, crate::proofs::RowLaws::data_there))]
 pub fn data_at(line: &[u8], at: usize, out: &mut [u8]) -> Hex
     ensures { (result ≡ hex_of (length out.old) (data_at line.now at)) × (out.new ≡ hex_left (data_at line.now at) out.old) }
 {

@@ -1,4 +1,6 @@
 // The form of each kind of frame: where its fields stand in its application data, and what a safe frame's CRC covers.
+#![tactic(auto)]
+
 ghost use Rattle.std.specs.Prelude.{◌≡◌};
 ghost use Rattle.frame_forms.specs.Forms.{safe_ok, safe_read, plain_read, read_sync, read_safe_request, read_plain_request, safe_com, read_safe_response, plain_com, read_plain_response, read_tid_assignment, read_sid_assignment, read_acknowledgement, read_invariants, safe_read_request, safe_write_request, sil2_assignment, sil4_assignment};
 
@@ -7,7 +9,7 @@ use fields::{byte_field, id_field, sec_field, sid_field, word_field};
 use frame_kinds::kinds::Frame;
 
 // The answer to application data: a frame, or one of the numbers 7 to 9.
-#[derive(Drop)]
+#[derive(Clone, Copy)]
 pub enum Read {
     Valid(Frame),
     Kind,
@@ -16,6 +18,7 @@ pub enum Read {
 }
 
 // Whether the safety CRC at the end is that of the bytes before it.
+#[tactic(auto, unfolding(crate::specs::Forms::safe_ok))]
 fn safe_ok(s: &[u8]) -> bool
     ensures { result ≡ safe_ok s.now }
 {
@@ -27,6 +30,7 @@ fn safe_ok(s: &[u8]) -> bool
 }
 
 // A safe frame: its form (8), then its CRC (9).
+#[tactic(auto, unfolding(crate::specs::Forms::safe_read))]
 fn safe_read(form: bool, s: &[u8], f: Frame) -> Read
     ensures { result ≡ safe_read form s.now f }
 {
@@ -40,6 +44,7 @@ fn safe_read(form: bool, s: &[u8], f: Frame) -> Read
 }
 
 // A non-safe frame: its form only.
+#[tactic(auto, unfolding(crate::specs::Forms::plain_read))]
 fn plain_read(form: bool, f: Frame) -> Read
     ensures { result ≡ plain_read form f }
 {
@@ -49,6 +54,7 @@ fn plain_read(form: bool, f: Frame) -> Read
     Read::Form
 }
 
+#[tactic(auto, unfolding(crate::specs::Forms::read_sync))]
 pub fn read_sync(addr: u8, s: &[u8]) -> Read
     ensures { result ≡ read_sync addr s.now }
 {
@@ -62,6 +68,7 @@ pub fn read_sync(addr: u8, s: &[u8]) -> Read
     )
 }
 
+#[tactic(auto, unfolding(crate::specs::Forms::safe_read_request))]
 fn safe_read_request(s: &[u8]) -> Read
     ensures { result ≡ safe_read_request s.now }
 {
@@ -79,6 +86,7 @@ fn safe_read_request(s: &[u8]) -> Read
     )
 }
 
+#[tactic(auto, unfolding(crate::specs::Forms::safe_write_request))]
 fn safe_write_request(s: &[u8]) -> Read
     ensures { result ≡ safe_write_request s.now }
 {
@@ -97,6 +105,7 @@ fn safe_write_request(s: &[u8]) -> Read
     )
 }
 
+#[tactic(auto, unfolding(crate::specs::Forms::read_safe_request))]
 pub fn read_safe_request(s: &[u8]) -> Read
     ensures { result ≡ read_safe_request s.now }
 {
@@ -110,6 +119,7 @@ pub fn read_safe_request(s: &[u8]) -> Read
     Read::Form
 }
 
+#[tactic(auto, unfolding(crate::specs::Forms::read_plain_request))]
 pub fn read_plain_request(s: &[u8]) -> Read
     ensures { result ≡ read_plain_request s.now }
 {
@@ -130,6 +140,7 @@ pub fn read_plain_request(s: &[u8]) -> Read
 }
 
 // Which COM a safe response may have, with how many data bytes.
+#[tactic(auto, unfolding(crate::specs::Forms::safe_com))]
 pub fn safe_com(com: u8, datl: u8) -> bool
     ensures { result ≡ safe_com «com» datl }
 {
@@ -142,6 +153,7 @@ pub fn safe_com(com: u8, datl: u8) -> bool
     false
 }
 
+#[tactic(auto, unfolding(crate::specs::Forms::read_safe_response))]
 pub fn read_safe_response(s: &[u8]) -> Read
     ensures { result ≡ read_safe_response s.now }
 {
@@ -164,6 +176,7 @@ pub fn read_safe_response(s: &[u8]) -> Read
 }
 
 // The same for a non-safe response other than the answer to a sync.
+#[tactic(auto, unfolding(crate::specs::Forms::plain_com))]
 pub fn plain_com(com: u8, datl: u8) -> bool
     ensures { result ≡ plain_com «com» datl }
 {
@@ -176,6 +189,7 @@ pub fn plain_com(com: u8, datl: u8) -> bool
     false
 }
 
+#[tactic(auto, unfolding(crate::specs::Forms::read_plain_response))]
 pub fn read_plain_response(s: &[u8]) -> Read
     ensures { result ≡ read_plain_response s.now }
 {
@@ -206,6 +220,7 @@ pub fn read_plain_response(s: &[u8]) -> Read
     )
 }
 
+#[tactic(auto, unfolding(crate::specs::Forms::read_tid_assignment))]
 pub fn read_tid_assignment(s: &[u8]) -> Read
     ensures { result ≡ read_tid_assignment s.now }
 {
@@ -219,6 +234,7 @@ pub fn read_tid_assignment(s: &[u8]) -> Read
     )
 }
 
+#[tactic(auto, unfolding(crate::specs::Forms::sil2_assignment))]
 fn sil2_assignment(s: &[u8]) -> Read
     ensures { result ≡ sil2_assignment s.now }
 {
@@ -234,6 +250,7 @@ fn sil2_assignment(s: &[u8]) -> Read
     )
 }
 
+#[tactic(auto, unfolding(crate::specs::Forms::sil4_assignment))]
 fn sil4_assignment(s: &[u8]) -> Read
     ensures { result ≡ sil4_assignment s.now }
 {
@@ -251,6 +268,7 @@ fn sil4_assignment(s: &[u8]) -> Read
     )
 }
 
+#[tactic(auto, unfolding(crate::specs::Forms::read_sid_assignment))]
 pub fn read_sid_assignment(s: &[u8]) -> Read
     ensures { result ≡ read_sid_assignment s.now }
 {
@@ -260,6 +278,7 @@ pub fn read_sid_assignment(s: &[u8]) -> Read
     sil2_assignment(s)
 }
 
+#[tactic(auto, unfolding(crate::specs::Forms::read_acknowledgement))]
 pub fn read_acknowledgement(s: &[u8]) -> Read
     ensures { result ≡ read_acknowledgement s.now }
 {
@@ -275,6 +294,7 @@ pub fn read_acknowledgement(s: &[u8]) -> Read
     )
 }
 
+#[tactic(auto, unfolding(crate::specs::Forms::read_invariants))]
 pub fn read_invariants(s: &[u8]) -> Read
     ensures { result ≡ read_invariants s.now }
 {

@@ -1,4 +1,6 @@
 // The page of the grammar, which saturn-frame prints for an empty list: a line for each kind, with x for each digit.
+#![tactic(auto)]
+
 ghost use Rattle.std.specs.Prelude.{◌≡◌, ◌*◌, ◌≤◌, ◌<◌, take, get_or};
 ghost use Rattle.frame_words.specs.Chars.{chars};
 ghost use Rattle.frame_words.specs.Words.{word_at};
@@ -22,6 +24,7 @@ fn add_places(t: Text, digits: u8) -> Text
     texts::add(t, &places)
 }
 
+#[tactic(auto, unfolding(crate::specs::Grammar::form_field))]
 fn add_form_field(t: Text, form: Form, i: usize) -> Text
     requires { i < 8 }
     ensures { result ≡ form_field t (word_at form.names (i * 8), get_or form.digits i 0) }
@@ -32,6 +35,7 @@ fn add_form_field(t: Text, form: Form, i: usize) -> Text
     add_places(u, digits[i])
 }
 
+#[tactic(auto, using(crate::proofs::GrammarLaws::form_turn, crate::proofs::GrammarLaws::form_end))]
 fn add_form_fields(t: Text, form: Form) -> Text
     requires { form.count ≤ 8 }
     ensures { result ≡ form_fields (fields_in form) t }
@@ -47,6 +51,7 @@ fn add_form_fields(t: Text, form: Form) -> Text
 }
 
 // Adds the form of a kind.
+#[tactic(auto, using(crate::proofs::GrammarLaws::form_data, crate::proofs::GrammarLaws::form_plain, frame_words::proofs::FormLaws::form_holds))]
 fn add_form(t: Text, kind: Kind) -> Text
     ensures { result ≡ form_text t kind }
 {
@@ -67,6 +72,7 @@ fn add_line(t: Text, kind: Kind) -> Text
 }
 
 // The requests.
+#[tactic(auto, using(crate::proofs::GrammarLaws::line_behind))]
 fn add_requests(t: Text) -> Text
     ensures { result ≡ form_lines requests t }
 {
@@ -78,6 +84,7 @@ fn add_requests(t: Text) -> Text
 }
 
 // The responses.
+#[tactic(auto, using(crate::proofs::GrammarLaws::line_behind))]
 fn add_replies(t: Text) -> Text
     ensures { result ≡ form_lines replies t }
 {
@@ -87,6 +94,7 @@ fn add_replies(t: Text) -> Text
 }
 
 // The assignments and the module's invariants.
+#[tactic(auto, using(crate::proofs::GrammarLaws::line_behind))]
 fn add_others(t: Text) -> Text
     ensures { result ≡ form_lines others t }
 {
@@ -108,6 +116,7 @@ fn add_other_lines(t: Text) -> Text
 }
 
 // The whole page.
+#[tactic(auto, using(crate::proofs::GrammarLaws::page_whole))]
 pub fn grammar_text() -> Text
     ensures { result ≡ grammar_text }
 {

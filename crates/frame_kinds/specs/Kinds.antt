@@ -1,6 +1,6 @@
 -- The frames' application data, kind by kind: tables 4 to 12 of document 000 with the readings that document 01 fixes.
 -- A field is a pair: its length in bytes and its number. Assumes nothing.
-use Rattle.std.specs.Prelude.{Bool, true, false, List, [], ◌∷◌, ◌++◌, ℕ, ◌+◌, length, take, drop}
+use Rattle.std.specs.Prelude.{Bool, true, false, List, [], ◌∷◌, ◌++◌, ℕ, length, take, drop}
 use Rattle.base.specs.Choice.{choose}
 use Rattle.base.specs.Bytes.{bytes_of}
 use Rattle.crc.specs.Crc.{crc_of}

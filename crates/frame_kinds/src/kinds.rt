@@ -4,7 +4,7 @@ ghost use Rattle.frame_kinds.specs.Kinds.{head_of, tail_of, is_safe, data_len, d
 ghost use Rattle.frame_kinds.specs.Holding.{held_as};
 
 // Up to eight fields: their widths in bytes, their numbers, and how many there are.
-#[derive(Drop)]
+#[derive(Clone, Copy)]
 pub struct Fields {
     pub widths: [u8; 8],
     pub values: [u64; 8],
@@ -12,7 +12,7 @@ pub struct Fields {
 }
 
 // A frame without its data bytes. These stay in the application data: `data_len` bytes after the fields of `head_of`.
-#[derive(Drop)]
+#[derive(Clone, Copy)]
 pub enum Frame {
     Sync {
         src: u32,

@@ -1,4 +1,6 @@
 // Reading frames: from application data, and from a body between two flags.
+#![tactic(auto)]
+
 ghost use Rattle.std.specs.Prelude.{◌≡◌, ◌≤◌, take};
 ghost use Rattle.frame_reading.specs.Reading.{read_typ, read_app, read_answer, read_number, answer_to_app, refused_frame, received_app, received_body, read_frame, received_answer, answer_to_frame, reading_number};
 
@@ -23,7 +25,7 @@ pub fn read_number(read: Read) -> u8
 }
 
 // The answer to a body: an address and a frame, or one of the numbers 1 to 5 and 7 to 9.
-#[derive(Drop)]
+#[derive(Clone, Copy)]
 pub enum Reading {
     Valid(u8, Frame),
     Length,
@@ -53,7 +55,7 @@ pub fn reading_number(reading: Reading) -> u8
 }
 
 // The answer to a body, with the application data in the first `len` of `bytes`; they hold the frame's data bytes.
-#[derive(Drop)]
+#[derive(Clone, Copy)]
 pub struct Received {
     pub reading: Reading,
     pub bytes: [u8; 272],
@@ -61,6 +63,7 @@ pub struct Received {
 }
 
 // The TYP byte decides. The ranges are the types that are not built: number 7.
+#[tactic(auto, unfolding(crate::specs::Reading::read_typ))]
 fn read_typ(typ: u8, addr: u8, s: &[u8]) -> Read
     ensures { result ≡ read_typ typ addr s.now }
 {
@@ -86,6 +89,7 @@ fn read_typ(typ: u8, addr: u8, s: &[u8]) -> Read
 }
 
 // Application data received for an address.
+#[tactic(auto, using(wire::proofs::AnswerLaws::with_answer), unfolding(crate::specs::Reading::read_app))]
 pub fn read_app(addr: u8, s: &[u8]) -> Read
     ensures { (result ≡ read_app addr s.now) × (read_answer result ≡ answer_to_app addr s.now) }
 {
@@ -123,6 +127,7 @@ fn received_app(b: Body) -> Received
 }
 
 // By the verdict on the body.
+#[tactic(auto, unfolding(crate::specs::Reading::received_body))]
 fn received_body(b: Body) -> Received
     requires { b.len ≤ 272 }
     ensures { result ≡ received_body b }
@@ -139,6 +144,7 @@ fn received_body(b: Body) -> Received
 }
 
 // A body as it came from the line.
+#[tactic(auto, using(crate::proofs::Receiving::passed_on, wire::proofs::BodyLength::read_most), unfolding(crate::specs::Reading::read_frame))]
 pub fn read_frame(body: &[u8]) -> Received
     ensures { (result ≡ read_frame body.now) × (received_answer result ≡ answer_to_frame body.now) }
 {

@@ -22,6 +22,7 @@ fn add_body(t: Text, line: &[u8], n: usize) -> Text
     texts::add_hex(t, &line[1..end])
 }
 
+#[tactic(auto, using(crate::proofs::BuildingLaws::sent_within, crate::proofs::BuildingLaws::built_sent, crate::proofs::BuildingLaws::built_by))]
 fn frame_built(t: Text, addr: u8, f: Frame, data: &[u8]) -> Text
     ensures { result ≡ frame_built t addr f «data».now }
 {
@@ -34,6 +35,7 @@ fn frame_built(t: Text, addr: u8, f: Frame, data: &[u8]) -> Text
     }
 }
 
+#[tactic(auto, unfolding(crate::specs::Built::built_text))]
 pub fn built(t: Text, kind: Kind, v: [u64; 8], data: &[u8]) -> Text
     ensures { result ≡ built_text t kind v «data».now }
 {

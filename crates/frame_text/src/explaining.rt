@@ -32,6 +32,7 @@ fn width_of(digits: u8) -> usize
 }
 
 // Adds a number in `digits` hex digits.
+#[tactic(auto, using(crate::proofs::ExplainingLaws::stored_bytes))]
 fn add_number(t: Text, digits: u8, v: u64) -> Text
     ensures { result ≡ put t (hex_text (bytes_of (width8 (digits / 2)) v)) }
 {
@@ -42,6 +43,7 @@ fn add_number(t: Text, digits: u8, v: u64) -> Text
 }
 
 // Adds field `i` of a form, with its number.
+#[tactic(auto, unfolding(crate::specs::Explained::put_field))]
 fn add_field(t: Text, form: Form, i: usize, v: u64) -> Text
     requires { i < 8 }
     ensures { result ≡ put_field t (word_at form.names (i * 8), get_or form.digits i 0) v }
@@ -52,6 +54,7 @@ fn add_field(t: Text, form: Form, i: usize, v: u64) -> Text
     add_number(u, digits[i], v)
 }
 
+#[tactic(auto, using(crate::proofs::ExplainingLaws::put_turn, crate::proofs::ExplainingLaws::put_end))]
 fn add_fields(t: Text, form: Form, v: [u64; 8]) -> Text
     requires { form.count ≤ 8 }
     ensures { result ≡ put_fields (fields_in form) v 0 t }
@@ -66,6 +69,7 @@ fn add_fields(t: Text, form: Form, v: [u64; 8]) -> Text
     u
 }
 
+#[tactic(auto, using(frame_kinds::proofs::Parts::data_at_lem, crate::proofs::ExplainingLaws::data_most))]
 fn add_data(t: Text, f: Frame, bytes: &[u8]) -> Text
     requires { 268 ≤ length bytes.now }
     ensures { result ≡ put t (hex_text (data_in f bytes.now)) }
@@ -91,6 +95,7 @@ fn frame_text(t: Text, addr: u8, f: Frame, bytes: &[u8]) -> Text
 }
 
 // Adds the frame that is read from a body, or the refusal.
+#[tactic(auto, using(crate::proofs::ExplainingLaws::read_by))]
 fn read_text(t: Text, body: &[u8]) -> Text
     ensures { result ≡ read_text t body.now }
 {
@@ -111,6 +116,7 @@ fn read_text(t: Text, body: &[u8]) -> Text
 }
 
 // Whether the first byte and the last are flags.
+#[tactic(auto, using(crate::proofs::ExplainingLaws::flagged_short, crate::proofs::ExplainingLaws::flagged_is))]
 fn is_flagged(bytes: &[u8]) -> bool
     ensures { result ≡ is_flagged bytes.now }
 {
@@ -122,6 +128,7 @@ fn is_flagged(bytes: &[u8]) -> bool
 }
 
 // Explains a body, or a reply as a trace shows it: then the flags are left off.
+#[tactic(auto, using(crate::proofs::ExplainingLaws::flagged_long, crate::proofs::ExplainingLaws::no_flags))]
 pub fn explained(t: Text, bytes: &[u8]) -> Text
     ensures { result ≡ explained_text t bytes.now }
 {

@@ -5,13 +5,14 @@ ghost use Rattle.frame_words.specs.Called.{called};
 use crate::table::Kind;
 use crate::words::is_word;
 
-#[derive(Drop)]
+#[derive(Clone, Copy)]
 pub enum Called {
     Named(Kind),
     Body,
     Other,
 }
 
+#[tactic(auto, unfolding(crate::specs::Called::called))]
 pub fn called_by(word: &[u8]) -> Called
     ensures { result ≡ called word.now }
 {

@@ -2,7 +2,7 @@
 ghost use Rattle.std.specs.Prelude.{◌≡◌};
 ghost use Rattle.frame_words.specs.Table.{form_of, has_data};
 
-#[derive(Drop)]
+#[derive(Clone, Copy)]
 pub enum Kind {
     Sync,
     Read,
@@ -21,7 +21,7 @@ pub enum Kind {
 
 // A kind's word, and its fields except the data: their names, in eight columns each; how many hex digits each has; and
 // how many fields there are.
-#[derive(Drop)]
+#[derive(Clone, Copy)]
 pub struct Form {
     pub word: [u8; 20],
     pub names: [u8; 64],

@@ -11,12 +11,13 @@ use text::lines::LF;
 use text::{decimal, putting};
 
 // Room for a line of 1,200 characters with its LF, and for the page of the grammar.
-#[derive(Drop)]
+#[derive(Clone, Copy)]
 pub struct Text {
     pub bytes: [u8; 2048],
     pub len: usize,
 }
 
+#[tactic(auto, unfolding(crate::specs::Texts::no_text))]
 pub fn no_text() -> Text
     ensures { result ≡ no_text }
 {
@@ -27,6 +28,7 @@ pub fn no_text() -> Text
 }
 
 // Adds characters.
+#[tactic(auto, unfolding(crate::specs::Texts::put))]
 pub fn add(t: Text, s: &[u8]) -> Text
     ensures { result ≡ Texts·put t s.now }
 {
@@ -36,6 +38,7 @@ pub fn add(t: Text, s: &[u8]) -> Text
 }
 
 // Adds bytes, in two digits each.
+#[tactic(auto, unfolding(crate::specs::Texts::put))]
 pub fn add_hex(t: Text, s: &[u8]) -> Text
     ensures { result ≡ Texts·put t (hex_text s.now) }
 {
@@ -45,6 +48,7 @@ pub fn add_hex(t: Text, s: &[u8]) -> Text
 }
 
 // Adds a number in decimal.
+#[tactic(auto, unfolding(crate::specs::Texts::put))]
 pub fn add_number(t: Text, n: u64) -> Text
     ensures { result ≡ Texts·put t (decimal_text n) }
 {
@@ -67,6 +71,7 @@ pub fn end_line(t: Text) -> Text
 }
 
 // Adds the word that begins at index `at` of a row of columns.
+#[tactic(auto, using(crate::proofs::WordLaws::word_none, crate::proofs::WordLaws::word_within, crate::proofs::WordLaws::word_part))]
 pub fn add_word(t: Text, columns: &[u8], at: usize) -> Text
     ensures { result ≡ Texts·put t (word_at columns.now at) }
 {

@@ -5,6 +5,7 @@ ghost use Rattle.frame_words.specs.Words.{word_end, starts, same};
 pub const SPACE: u8 = 0x20;
 
 // The index after the word that begins at index `from`: that of the next space, or the line's end.
+#[tactic(auto, using(crate::proofs::WordLaws::word_none, crate::proofs::WordLaws::word_space, crate::proofs::WordLaws::word_more))]
 pub fn word_end(line: &[u8], from: usize) -> usize
     ensures { result ≡ word_end line.now from }
 {
@@ -19,6 +20,7 @@ pub fn word_end(line: &[u8], from: usize) -> usize
 }
 
 // Whether a word starts with a text.
+#[tactic(auto, using(crate::proofs::WordLaws::starts_end, crate::proofs::WordLaws::starts_short, crate::proofs::WordLaws::starts_other, crate::proofs::WordLaws::starts_more))]
 pub fn starts_with(word: &[u8], text: &[u8]) -> bool
     ensures { result ≡ starts word.now text.now }
 {
@@ -36,6 +38,7 @@ pub fn starts_with(word: &[u8], text: &[u8]) -> bool
 }
 
 // Whether a word is that text.
+#[tactic(auto, unfolding(crate::specs::Words::same))]
 pub fn is_word(word: &[u8], text: &[u8]) -> bool
     ensures { result ≡ same word.now text.now }
 {

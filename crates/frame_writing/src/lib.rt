@@ -1,4 +1,6 @@
 // Frames written into a lent buffer, and the theorems that reading and writing undo each other.
+#![tactic(auto)]
+
 ghost use Rattle.std.specs.Prelude.{◌≡◌, ◌≤◌, length};
 ghost use Rattle.std.proofs.lemmas.List.Edits.{sets};
 ghost use Rattle.laying.specs.Laying.{left_by, laid_answer};
@@ -13,6 +15,7 @@ use frame_kinds::{kinds, putting};
 use laying::Laid;
 
 // Whether the fields can be laid down.
+#[tactic(auto, unfolding(crate::specs::Writing::fields_fit))]
 fn fields_fit(addr: u8, f: Frame) -> bool
     ensures { result ≡ fields_fit addr f }
 {
@@ -46,6 +49,7 @@ fn fields_fit(addr: u8, f: Frame) -> bool
 }
 
 // Whether they can, and there are as many data bytes as the frame says.
+#[tactic(auto, unfolding(crate::specs::Writing::fits))]
 fn fits_data(addr: u8, f: Frame, len: usize) -> bool
     ensures { result ≡ fits addr f len }
 {

@@ -24,6 +24,7 @@ fn passed(line: &[u8]) -> Text
 }
 
 // The answer to what follows a port digit and its space: printed after them, but a BAD line without them.
+#[tactic(auto, using(list_lines::proofs::ListedLaws::port_long))]
 fn behind_port(number: &[u8], line: &[u8]) -> Text
     requires { (length line.now ≤ 1200) × (has_port line.now ≡ true) }
     ensures { result ≡ port_text number.now line.now }
@@ -33,6 +34,7 @@ fn behind_port(number: &[u8], line: &[u8]) -> Text
 }
 
 // The answer to a line; `number` is its number, in decimal digits.
+#[tactic(auto, using(crate::proofs::AnswerLaws::answer_over, crate::proofs::AnswerLaws::answer_silent, crate::proofs::AnswerLaws::answer_ticks, crate::proofs::AnswerLaws::answer_body, crate::proofs::AnswerLaws::answer_port, crate::proofs::AnswerLaws::answer_plain))]
 pub fn answer(number: &[u8], line: &[u8]) -> Text
     ensures { result ≡ answer_of number.now line.now }
 {

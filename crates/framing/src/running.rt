@@ -1,9 +1,9 @@
 // Standard input, line by line, to standard output.
-ghost use Rattle.std.specs.Prelude.{◌≡◌, ◌≤◌, true, length, take, nat_lt};
+ghost use Rattle.std.specs.Prelude.{◌≡◌, ◌≤◌, true, length, take, nat_lt, IfOk, OnErr};
 ghost use Rattle.base.specs.Choice.{choose};
 ghost use Rattle.text.specs.Putting.{put_at, place_after};
 ghost use Rattle.frame_words.specs.Texts.{room, text_in};
-ghost use Rattle.console.specs.Answering.{Whole};
+ghost use Rattle.console.specs.Answering.{Whole, Left};
 ghost use Rattle.framing.specs.Answers.{answer_of, over_text};
 ghost use Rattle.framing.specs.Running.{number_of, answered_in, end_text};
 ghost use Rattle.framing.specs.Running.{answering as Running·answering};
@@ -13,6 +13,8 @@ use console::lines::Cursor;
 use console::{blocks, lines};
 use frame_words::texts;
 use frame_words::texts::Text;
+use std::io;
+use std::io::{Read, Write};
 
 // The answer to a line of `len` characters, of which the buffer keeps the first.
 fn answer_to(number: &[u8], line: &[u8], len: usize) -> Text
@@ -41,6 +43,7 @@ fn answer_in(before: u64, line: &[u8], len: usize) -> Text
 }
 
 // The text at the end of the input: the grammar, if there was no line.
+#[tactic(auto, using(crate::proofs::RunningLaws::end_first, crate::proofs::RunningLaws::end_later))]
 fn end_text(lines: u64) -> Text
     ensures { result ≡ end_text lines }
 {
@@ -51,6 +54,7 @@ fn end_text(lines: u64) -> Text
 }
 
 // Puts a text at index `at` of the output; returns the next index.
+#[tactic(auto, using(crate::proofs::RunningLaws::text_fits))]
 fn put(t: Text, out: &mut [u8], at: usize) -> usize
     ensures { (length (text_in t) ≤ room) × (result ≡ place_after (length out.old) at (text_in t)) × (out.new ≡ put_at out.old at (text_in t)) }
 {
@@ -59,31 +63,41 @@ fn put(t: Text, out: &mut [u8], at: usize) -> usize
 }
 
 // The answers to all lines, and the text at the end. They are handed on when the output is full; the last of them are
-// still in the output on return. No run has as many lines as the count can hold.
-fn answer_all(block: &mut [u8; 65536], line: &mut [u8; 1200], out: &mut [u8; 16384]) -> Cursor
-    ensures { result.ended ≡ true → Whole Running·answering block.new out.new result }
+// still in the output on return. No run has as many lines as the count can hold. An error of the input or the output
+// ends the work; the answers before it were handed on, or are in the output.
+#[tactic(auto, using(console::proofs::AnsweringLaws::stands_left))]
+fn answer_all<R: Read, W: Write>(
+    input: &mut R,
+    output: &mut W,
+    block: &mut [u8; 65536],
+    line: &mut [u8; 1200],
+    out: &mut [u8; 16384],
+) -> io::Result<Cursor>
+    ensures ok { IfOk result (λ c. c.ended ≡ true → Whole Running·answering block.new out.new c) }
+    ensures err { OnErr result (Left Running·answering out.new) }
 {
     let mut count: u64 = 0;
     let mut c = lines::begin(0);
     while count < u64::MAX {
-        c = lines::next_line(block, line, out, c);
+        c = lines::next_line(input, output, block, line, out, c)?;
         if !c.whole {
             if !c.ended {
-                return c;
+                return Ok(c);
             }
             c.to = put(end_text(count), out, c.to);
-            return c;
+            return Ok(c);
         }
         c.to = put(answer_in(count, line, c.len), out, c.to);
         count = next_number(count);
     }
-    c
+    Ok(c)
 }
 
-pub fn run() {
-    let mut block = io::large_buffer();
+pub fn run<R: Read, W: Write>(input: &mut R, output: &mut W) -> io::Result<()> {
+    let mut block = blocks::no_input();
     let mut line = text::lines::no_line();
     let mut out = blocks::no_output();
-    let c = answer_all(&mut block, &mut line, &mut out);
-    lines::close(&out, c);
+    let c = answer_all(input, output, &mut block, &mut line, &mut out)?;
+    lines::close(output, &out, c)?;
+    Ok(())
 }

@@ -1,5 +1,7 @@
 // A frame laid down in a lent buffer: flag, address, stuffed data, stuffed FCS, flag. And the theorems that reading and laying
 // down undo each other.
+#![tactic(auto)]
+
 ghost use Rattle.std.specs.Prelude.{◌≡◌, ◌++◌, ◌≤◌, ltb, length, drop};
 ghost use Rattle.std.proofs.lemmas.List.Edits.{sets};
 ghost use Rattle.laying.specs.Laying.{body_with, line_with, line_of, laid_of, left_by, laid_answer, answer_to_laying};
@@ -7,6 +9,7 @@ ghost use Rattle.laying.specs.Laying.{body_with, line_with, line_of, laid_of, le
 use stuffing::FLAG;
 
 // Lays down the body with a given FCS at the start of the buffer; returns its length.
+#[tactic(auto, using(crate::proofs::LayingLaws::body_length_lem, crate::proofs::LayingLaws::body_laid))]
 fn lay_body(dst: &mut [u8], addr: u8, data: &[u8], check: u16) -> usize
     requires { length (body_with check addr «data».now) ≤ length dst.old }
     ensures { (result ≡ length (body_with check addr «data».now)) × (dst.new ≡ sets dst.old 0 (body_with check addr «data».now)) }
@@ -18,6 +21,7 @@ fn lay_body(dst: &mut [u8], addr: u8, data: &[u8], check: u16) -> usize
 }
 
 // The same with both flags. The bytes after the closing flag are left as they were.
+#[tactic(auto, using(crate::proofs::LayingLaws::line_length, crate::proofs::LayingLaws::line_laid))]
 fn lay_line(buf: &mut [u8], addr: u8, data: &[u8], check: u16) -> usize
     requires { length (line_with check addr «data».now) ≤ length buf.old }
     ensures { (result ≡ length (line_with check addr «data».now)) × (buf.new ≡ line_with check addr «data».now ++ drop (length (line_with check addr «data».now)) buf.old) }
@@ -29,6 +33,7 @@ fn lay_line(buf: &mut [u8], addr: u8, data: &[u8], check: u16) -> usize
 }
 
 // The length of that line.
+#[tactic(auto, using(crate::proofs::LayingLaws::line_length, crate::proofs::LayingLaws::body_length_lem, stuffing::proofs::StuffingLaws::stuff_most))]
 fn line_len(addr: u8, data: &[u8], check: u16) -> usize
     requires { length «data».now ≤ 269 }
     ensures { result ≡ length (line_with check addr «data».now) }
@@ -41,6 +46,7 @@ fn line_len(addr: u8, data: &[u8], check: u16) -> usize
 const LONGEST_LINE: usize = 545;
 
 // Whether a buffer is too short for that line. One that is long enough for any line needs no count.
+#[tactic(auto, using(crate::proofs::LayingLaws::line_most))]
 fn lacks_room(room: usize, addr: u8, data: &[u8], check: u16) -> bool
     requires { length «data».now ≤ 269 }
     ensures { result ≡ ltb room (length (line_with check addr «data».now)) }
@@ -52,7 +58,7 @@ fn lacks_room(room: usize, addr: u8, data: &[u8], check: u16) -> bool
 }
 
 // The result of laying down: the length on the line, or number 5, 8 or 20.
-#[derive(Drop)]
+#[derive(Clone, Copy)]
 pub enum Laid {
     Sent(usize),
     Reserved,
@@ -73,6 +79,7 @@ pub fn laid_number(laid: Laid) -> u8
 }
 
 // Lays down application data for an address, or refuses them and leaves the buffer untouched.
+#[tactic(auto, using(crate::proofs::LayingLaws::laid_reserved, crate::proofs::LayingLaws::laid_short, crate::proofs::LayingLaws::laid_long, crate::proofs::LayingLaws::laid_room, crate::proofs::LayingLaws::laid_sent))]
 pub fn lay(buf: &mut [u8], addr: u8, data: &[u8]) -> Laid
     ensures { (result ≡ laid_of (length buf.old) addr «data».now) × (buf.new ≡ left_by result (line_of addr «data».now) buf.old) × (laid_answer result ≡ answer_to_laying (length buf.old) addr «data».now) }
 {

@@ -59,4 +59,7 @@ pub kept : (ls : List (List ℕ)) → Kept (next_all loading start ls)
 kept ls = kept_from start ls kept_start
 
 pub sums_fit : (ls : List (List ℕ)) (l : List ℕ) → let p = next_all loading start ls in p.lines < most_lines → p.cycle.bytes + (counted_next p (line_of l)).sent < 2 ^ 32
-sums_fit ls l h = never_wraps (next_all loading start ls) (kept ls) l h
+sums_fit ls l h =
+    let p = next_all loading start ls in
+    let k = kept ls in
+    omega (arith, k.bytes_most, line_sent p k l)

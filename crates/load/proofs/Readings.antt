@@ -1,22 +1,17 @@
 -- The arms of a `match` that stand for all other cases: no sync, and no line that opens a cycle. Assumes nothing.
-use Rattle.std.proofs.Common.{◌≡◌, ℕ, false, List, [], ◌∷◌, refl}
-use denote.Enum.Declared.{tag_of}
-use types.Run.{OneOf, miss}
+use Rattle.std.proofs.Common.{◌≡◌, ℕ, false, List, refl}
 use Rattle.frame_kinds.specs.declared.kinds.Frame as kinds
 use Rattle.frame_kinds.specs.declared.kinds.Frame.TheVariants.{Sync, SafeRead, SafeWrite, PlainRead, PlainWrite, SafeResponse, PlainSyncResponse, PlainResponse, TidAssignment, SidAssignment, SidAssignment4, Acknowledgement, Invariants}
-use Rattle.frame_kinds.specs.contracts.kinds.Frame as frame-type
 use Rattle.frame_reading.specs.declared.Reading.{Reading}
 use Rattle.frame_reading.specs.declared.Reading.TheVariants as reading
-use Rattle.frame_reading.specs.contracts.Reading as reading-type
 use Rattle.rules.specs.Refusals.{is_sync}
 use Rattle.script_lines.specs.Forms.{step_in}
 use Rattle.script_lines.specs.declared.forms.Form.{Form}
 use Rattle.script_lines.specs.declared.forms.Form.TheVariants.{Ticks, Frame, Inputs, Bad}
-use Rattle.script_lines.specs.contracts.forms.Form as form_type_lem
 use Rattle.load.specs.Cycles.{is_sync_read, is_opening}
 
-pub no_sync : (f : kinds.Frame) → OneOf (1 ∷ 2 ∷ 3 ∷ 4 ∷ 5 ∷ 6 ∷ 7 ∷ 8 ∷ 9 ∷ 10 ∷ 11 ∷ 12 ∷ []) (tag_of frame-type.the_type f) → false ≡ is_sync f
-no_sync (Sync src cyc) k = absurd (miss (1 ∷ 2 ∷ 3 ∷ 4 ∷ 5 ∷ 6 ∷ 7 ∷ 8 ∷ 9 ∷ 10 ∷ 11 ∷ 12 ∷ []) 0 tt k)
+pub no_sync : (f : kinds.Frame) → ((src cyc : ℕ) → f ≡ Sync src cyc → ⊥) → false ≡ is_sync f
+no_sync (Sync src cyc) k = absurd (k src cyc refl)
 no_sync (SafeRead dest src cyc seq datl add) k = refl
 no_sync (SafeWrite dest src cyc seq datl add) k = refl
 no_sync (PlainRead src datl add) k = refl
@@ -30,8 +25,8 @@ no_sync (SidAssignment4 src sec mac sid sid2 src2) k = refl
 no_sync (Acknowledgement src dst sec mac) k = refl
 no_sync (Invariants dest src cyc seq config logic) k = refl
 
-pub no_frame : (r : Reading) → OneOf (1 ∷ 2 ∷ 3 ∷ 4 ∷ 5 ∷ 6 ∷ 7 ∷ 8 ∷ []) (tag_of reading-type.the_type r) → false ≡ is_sync_read r
-no_frame (reading.Valid a f) k = absurd (miss (1 ∷ 2 ∷ 3 ∷ 4 ∷ 5 ∷ 6 ∷ 7 ∷ 8 ∷ []) 0 tt k)
+pub no_frame : (r : Reading) → ((a : ℕ) (f : kinds.Frame) → r ≡ reading.Valid a f → ⊥) → false ≡ is_sync_read r
+no_frame (reading.Valid a f) k = absurd (k a f refl)
 no_frame reading.Length k = refl
 no_frame reading.Stuffing k = refl
 no_frame reading.Size k = refl
@@ -41,8 +36,8 @@ no_frame reading.Kind k = refl
 no_frame reading.Form k = refl
 no_frame reading.Check k = refl
 
-pub no_opening : (f : Form) (bytes : List ℕ) (n : ℕ) → OneOf (0 ∷ 2 ∷ 3 ∷ []) (tag_of form_type_lem.the_type f) → false ≡ is_opening (step_in f bytes) n
+pub no_opening : (f : Form) (bytes : List ℕ) (n : ℕ) → ((port k : ℕ) → f ≡ Frame port k → ⊥) → false ≡ is_opening (step_in f bytes) n
 no_opening (Ticks k) bytes n t = refl
-no_opening (Frame port k) bytes n t = absurd (miss (0 ∷ 2 ∷ 3 ∷ []) 1 tt t)
+no_opening (Frame port k) bytes n t = absurd (t port k refl)
 no_opening Inputs bytes n t = refl
 no_opening Bad bytes n t = refl

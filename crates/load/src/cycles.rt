@@ -18,7 +18,7 @@ use script_lines::doing::{do_form, no_reply, script_module};
 use script_lines::forms::{Form, no_bytes, read_line};
 
 // What is counted of a line: its number, whether it is an accepted sync, TCYC at it, and how many wire bytes are sent.
-#[derive(Drop)]
+#[derive(Clone, Copy)]
 pub struct Counted {
     pub number: u32,
     pub opens: bool,
@@ -27,7 +27,7 @@ pub struct Counted {
 }
 
 // The module, the number of lines that it has played, and the cycle that is open.
-#[derive(Drop)]
+#[derive(Clone, Copy)]
 pub struct Loading {
     pub agent: Agent,
     pub lines: u32,
@@ -35,7 +35,7 @@ pub struct Loading {
 }
 
 // The same after a line, and the index after the line's text.
-#[derive(Drop)]
+#[derive(Clone, Copy)]
 pub struct Loaded {
     pub loading: Loading,
     pub next: usize,
@@ -61,6 +61,7 @@ pub fn start() -> Loading
     }
 }
 
+#[tactic(auto, using(crate::proofs::Readings::no_sync))]
 fn is_sync(f: Frame) -> bool
     ensures { result ≡ is_sync f }
 {
@@ -70,6 +71,7 @@ fn is_sync(f: Frame) -> bool
     }
 }
 
+#[tactic(auto, using(crate::proofs::Readings::no_frame))]
 fn is_sync_read(reading: Reading) -> bool
     ensures { result ≡ is_sync_read reading }
 {
@@ -90,6 +92,7 @@ fn body_is_sync(bytes: &[u8], n: usize) -> bool
 }
 
 // Whether a line is an accepted sync.
+#[tactic(auto, using(crate::proofs::Readings::no_opening))]
 fn is_opening(form: Form, bytes: &[u8], answer: u8) -> bool
     ensures { result ≡ is_opening (step_in form bytes.now) answer }
 {
@@ -103,6 +106,7 @@ fn is_opening(form: Form, bytes: &[u8], answer: u8) -> bool
 }
 
 // The cycle that is open after a line: a new one, or the same with what the line sent.
+#[tactic(auto, using(base::proofs::Choosing::choose_true, base::proofs::Choosing::choose_false), unfolding(crate::specs::Loading::cycle_after))]
 fn cycle_after(line: Counted, cycle: Cycle) -> Cycle
     ensures { result ≡ cycle_after line cycle }
 {
@@ -121,6 +125,7 @@ fn cycle_after(line: Counted, cycle: Cycle) -> Cycle
 }
 
 // Puts the cycle that a line ends at index `at` of the output; returns the next index.
+#[tactic(auto, using(crate::proofs::CyclesLaws::ended_none, crate::proofs::CyclesLaws::ended_one))]
 fn put_ended(out: &mut [u8], at: usize, opens: bool, cycle: Cycle) -> usize
     ensures { (length (ended_text opens cycle) ≤ 64) × (result ≡ place_after (length out.old) at (ended_text opens cycle)) × (out.new ≡ put_at out.old at (ended_text opens cycle)) }
 {
@@ -131,6 +136,7 @@ fn put_ended(out: &mut [u8], at: usize, opens: bool, cycle: Cycle) -> usize
 }
 
 // Plays what a line asks for, with the bytes of the line; past the millionth line nothing is played.
+#[tactic(auto, using(text::proofs::PuttingLaws::none_put, text::proofs::PuttingLaws::same_put, crate::proofs::CyclesLaws::past_after, crate::proofs::CyclesLaws::past_shown, crate::proofs::CyclesLaws::line_after, crate::proofs::CyclesLaws::line_shown, crate::proofs::CyclesLaws::few_shown))]
 fn load_form(p: Loading, form: Form, bytes: &[u8; 600], out: &mut [u8], at: usize) -> Loaded
     ensures { (length (shown p (step_in form bytes.now)) ≤ 64) × (result.loading ≡ after p (step_in form bytes.now)) × (result.next ≡ place_after (length out.old) at (shown p (step_in form bytes.now))) × (out.new ≡ put_at out.old at (shown p (step_in form bytes.now))) }
 {

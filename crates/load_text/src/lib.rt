@@ -1,4 +1,6 @@
 // What is printed for a cycle: the number of its first line, and its share of the line as a quotient and a remainder.
+#![tactic(auto)]
+
 ghost use Rattle.std.specs.Prelude.{◌≡◌, ◌≤◌, ◌<◌, length, replicate};
 ghost use Rattle.text.specs.Putting.{put_at, place_after, Wrote};
 ghost use Rattle.load_text.specs.Shares.{dividend, divisor, quotient, remainder};
@@ -8,7 +10,7 @@ use text::decimal::put_decimal;
 use text::putting::put_text;
 
 // A cycle: the number of its first line, the wire bytes sent in it, and TCYC at the sync that opened it. TCYC 0 stands for no cycle.
-#[derive(Drop)]
+#[derive(Clone, Copy)]
 pub struct Cycle {
     pub first: u32,
     pub bytes: u32,
@@ -33,6 +35,7 @@ fn divisor(tcyc: u8) -> u64
     tcyc as u64 * LINE_RATE
 }
 
+#[tactic(auto, unfolding(crate::specs::Shares::quotient))]
 fn quotient(bytes: u32, tcyc: u8) -> u64
     requires { 0 < tcyc }
     ensures { result ≡ quotient bytes tcyc }
@@ -40,6 +43,7 @@ fn quotient(bytes: u32, tcyc: u8) -> u64
     dividend(bytes) / divisor(tcyc)
 }
 
+#[tactic(auto, unfolding(crate::specs::Shares::remainder))]
 fn remainder(bytes: u32, tcyc: u8) -> u64
     requires { 0 < tcyc }
     ensures { result ≡ remainder bytes tcyc }
@@ -55,6 +59,7 @@ fn no_text() -> [u8; 64]
 }
 
 // The first line and the quotient, each with its space.
+#[tactic(auto, using(crate::proofs::PrintingLaws::front_wrote))]
 fn put_front(buf: &mut [u8], c: Cycle) -> usize
     requires { (0 < c.tcyc) × (64 ≤ length buf.old) }
     ensures { Wrote buf.old 0 (front_text c) result buf.new }
@@ -66,6 +71,7 @@ fn put_front(buf: &mut [u8], c: Cycle) -> usize
 }
 
 // The line of a cycle, at the buffer's start; returns its length.
+#[tactic(auto, using(crate::proofs::PrintingLaws::cycle_wrote))]
 fn put_line(buf: &mut [u8], c: Cycle) -> usize
     requires { (0 < c.tcyc) × (64 ≤ length buf.old) }
     ensures { Wrote buf.old 0 (cycle_text c) result buf.new }

@@ -1,6 +1,8 @@
 // The calls by value with demand 3 in their contracts: besides what `agent` promises of a call, what the call adds to
 // every history from power-up that ended in the agent passed to it. Each makes one call of `agent`, and only its
 // contract is used.
+#![tactic(auto)]
+
 ghost use Rattle.std.specs.Prelude.{◌≡◌, length};
 ghost use Rattle.rules.specs.Calls.{tick as Calls·tick, frame as Calls·frame, tick_call, frame_call, Answers, AnswersFrame};
 ghost use Rattle.rules.specs.Fixed.{fixed_by};
@@ -12,6 +14,7 @@ use agent_replies::sending::Handled;
 use rules::Agent;
 
 // Power-up: if the limit is one of the two, the empty history ends in this agent.
+#[tactic(auto, using(demand3::proofs::ReachedLaws::begins))]
 pub fn power_up(mac: u64, iid: u64, ver: u16, limit: u8) -> Agent
     ensures { (result ≡ power_up mac iid ver (fixed_by limit)) × Begins (fixed_by limit) result }
 {

@@ -3,8 +3,6 @@ use mathlib.Core.Bool.{Bool, true, false, not}
 use mathlib.Core.List.{List, [], ◌∷◌}
 use mathlib.Core.Path.{◌≡◌, refl, sym, ap, ◌∙◌}
 use Prim.Native.Nat.{ℕ, ◌+◌, ◌-◌, ◌≤◌, ◌<◌}
-use denote.Enum.Declared.{tag_of}
-use types.Run.{OneOf, miss}
 use lib.ListN.{length, take, drop}
 use Rattle.base.proofs.Choosing.{choose_true, choose_false}
 use Rattle.console.specs.Lines.{lines_of}
@@ -14,7 +12,6 @@ use Rattle.script_lines.specs.Doing.{done}
 use Rattle.script_lines.specs.Forms.{line_of, line_in, step_in}
 use Rattle.script_lines.specs.declared.forms.Form.{Form}
 use Rattle.script_lines.specs.declared.forms.Form.TheVariants.{Ticks, Frame, Inputs, Bad}
-use Rattle.script_lines.specs.contracts.forms.Form as form_type_lem
 use Rattle.text.specs.Lines.{before_end}
 use Rattle.removals.specs.Removals.{after_lines, is_frame}
 use Rattle.removals.specs.Searching.{matters_here, first_from}
@@ -24,9 +21,9 @@ use Rattle.removals.proofs.PlayingLaws.{line_whole}
 use Rattle.removals.proofs.TextLines.{next_lines, no_lines}
 
 -- ---- a line whose form was read, and whether it is a frame
-no_frame : (f : Form) (bytes : List ℕ) → OneOf (0 ∷ 2 ∷ 3 ∷ []) (tag_of form_type_lem.the_type f) → false ≡ is_frame (step_in f bytes)
+no_frame : (f : Form) (bytes : List ℕ) → ((port n : ℕ) → f ≡ Frame port n → ⊥) → false ≡ is_frame (step_in f bytes)
 no_frame (Ticks n) bytes k = refl
-no_frame (Frame port n) bytes k = absurd (miss (0 ∷ 2 ∷ 3 ∷ []) 1 tt k)
+no_frame (Frame port n) bytes k = absurd (k port n refl)
 no_frame Inputs bytes k = refl
 no_frame Bad bytes k = refl
 
@@ -34,7 +31,7 @@ module _ (f : Form) (bytes line : List ℕ) (q : step_in f bytes ≡ line_in lin
   pub frame_read : (port n : ℕ) → f ≡ Frame port n → true ≡ is_frame (line_of line)
   frame_read port n e = ap (λ (g : Form). is_frame (step_in g bytes)) (sym e) ∙ ap is_frame (q ∙ line_whole line)
 
-  pub other_read : OneOf (0 ∷ 2 ∷ 3 ∷ []) (tag_of form_type_lem.the_type f) → false ≡ is_frame (line_of line)
+  pub other_read : ((port n : ℕ) → f ≡ Frame port n → ⊥) → false ≡ is_frame (line_of line)
   other_read k = no_frame f bytes k ∙ ap is_frame (q ∙ line_whole line)
 
 -- ---- whether a line matters: `b` is whether it is a frame, `x` the module after the lines that follow

@@ -7,6 +7,7 @@ use text::lines::LF;
 
 // Where the line that starts at index `at` ends: the index of its LF or, if it has none, the end of the text. The next line starts
 // one after that.
+#[tactic(auto, using(crate::proofs::TextLines::end_turn, crate::proofs::TextLines::end_here, crate::proofs::TextLines::end_past))]
 pub fn line_end(text: &[u8], at: usize) -> usize
     ensures { result ≡ at + length (before_end (drop at text.now)) }
 {
@@ -20,6 +21,7 @@ pub fn line_end(text: &[u8], at: usize) -> usize
     i
 }
 
+#[tactic(auto, using(crate::proofs::TextLines::line_within, crate::proofs::TextLines::count_turn, crate::proofs::TextLines::count_end))]
 pub fn count_lines(text: &[u8]) -> usize
     ensures { result ≡ length (lines_of text.now) }
 {

@@ -28,6 +28,7 @@ fn play_form(a: Agent, form: Form, bytes: &[u8; 600]) -> Agent
 }
 
 // Plays one line, as `play_form` plays what it asks for.
+#[tactic(auto, using(crate::proofs::PlayingLaws::line_whole))]
 pub fn play_line(a: Agent, line: &[u8]) -> Agent
     ensures { result ≡ (done a (line_of line.now)).agent }
 {
@@ -37,6 +38,7 @@ pub fn play_line(a: Agent, line: &[u8]) -> Agent
 }
 
 // Plays all lines of the text from index `from` on, where a line starts.
+#[tactic(auto, using(crate::proofs::PlayingLaws::play_turn, crate::proofs::PlayingLaws::play_end, crate::proofs::TextLines::line_within))]
 pub fn play_from(a: Agent, text: &[u8], from: usize) -> Agent
     ensures { result ≡ after_lines a (lines_of (drop from text.now)) }
 {

@@ -13,7 +13,7 @@ use script_lines::doing::script_module;
 use script_lines::forms::{Form, no_bytes, read_line};
 
 // The answer: the script is too long, or ends in fallback itself; or the line that mattered; or none did.
-#[derive(Drop)]
+#[derive(Clone, Copy)]
 pub enum Which {
     Long,
     Fallback,
@@ -25,6 +25,7 @@ const MOST_LINES: usize = 200;
 
 const MOST_BYTES: usize = 60000;
 
+#[tactic(auto, using(crate::proofs::SearchingLaws::frame_read, crate::proofs::SearchingLaws::other_read))]
 fn is_frame(line: &[u8]) -> bool
     ensures { result ≡ is_frame (line_of line.now) }
 {
@@ -38,6 +39,7 @@ fn is_frame(line: &[u8]) -> bool
 
 // Whether a line is a frame and, without it, the module is in fallback at the end. `a` is the module before the line, and the lines
 // after it start at index `next`.
+#[tactic(auto, using(crate::proofs::SearchingLaws::here_other, crate::proofs::SearchingLaws::here_frame))]
 fn matters_here(a: Agent, line: &[u8], text: &[u8], next: usize) -> bool
     ensures { result ≡ matters_here a line.now (lines_of (drop next text.now)) }
 {
@@ -48,6 +50,7 @@ fn matters_here(a: Agent, line: &[u8], text: &[u8], next: usize) -> bool
 }
 
 // The first line that matters. The module before each line is kept, so only the lines after it are played again.
+#[tactic(auto, using(crate::proofs::SearchingLaws::search_found, crate::proofs::SearchingLaws::search_turn, crate::proofs::SearchingLaws::search_end, crate::proofs::TextLines::line_within))]
 fn first(text: &[u8]) -> Which
     ensures { result ≡ first_from 1 script_module (lines_of text.now) }
 {
@@ -74,6 +77,7 @@ fn is_long(text: &[u8]) -> bool
 }
 
 // Which one frame of a script mattered.
+#[tactic(auto, using(crate::proofs::Whole::which_long, crate::proofs::Whole::which_fallback, crate::proofs::Whole::which_found, crate::proofs::Whole::end_is))]
 pub fn which_frame(text: &[u8]) -> Which
     ensures { result ≡ which_of text.now }
 {

@@ -136,7 +136,7 @@ module _ (port : ℕ) (a : Agent) where
         unless (eqb src nobody || not (eqb src a.last)) (refuses source refl)
         (λ p. unless (not (eqb dest (sid_of a))) (refuses addressee refl)
         (λ q. unless (not (eqb a.heard is_heard && eqb cyc a.cycle)) (other_cycle other)
-        (λ r. unless (ltb d a.taken) (refuses repeat refl)
+        (λ r. unless _ (refuses repeat refl)
         (λ up. unless (ltb (a.taken + most_skipped) d) (refuses out_of_order refl)
         (λ down. unless (leb (limit_of a) d) (refuses too_many refl)
         (λ few. let both = not-false (eqb a.heard is_heard && eqb cyc a.cycle) r in
@@ -148,7 +148,7 @@ module _ (port : ℕ) (a : Agent) where
             heard = eqb-true a.heard is_heard (and_left _ _ both);
             same = eqb-true cyc a.cycle (and_right (eqb a.heard is_heard) _ both);
           };
-          low = ltb-false d a.taken up;
+          low = ltb-false _ _ up;
           high = ltb-false (a.taken + most_skipped) d down;
           few = leb-false (limit_of a) d few;
         }))))))

@@ -31,6 +31,7 @@ pub mod Assigning
 pub mod GoodNext
 pub mod GoodStart
 pub mod NeverUnsound
+pub mod ShortReplies
 pub mod ReplyLengths
 pub mod FixedStays
 pub mod Skips

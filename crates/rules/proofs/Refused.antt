@@ -10,7 +10,7 @@ use lib.Dec.{eqb, leb}
 use Rattle.base.proofs.Choosing.{never, and_left, and_right, and_true, or_cases}
 use Rattle.frame_kinds.specs.declared.kinds.Frame.{Frame}
 use Rattle.frame_forms.specs.declared.Read.{Read}
-use Rattle.rules.specs.Answers.{accepted, body_length, reserved, elsewhere, form, crc, source, addressee, cycle, repeat, too_many, not_allowed, eight_others, unsound, reply_room, host_input, outside_window}
+use Rattle.rules.specs.Answers.{accepted, body_length, reserved, elsewhere, form, crc, source, addressee, cycle, too_many, not_allowed, eight_others, unsound, reply_room, host_input, outside_window}
 use Rattle.rules.specs.Calls.{Call, frame, act}
 use Rattle.rules.specs.Refusals.{Change, nothing, is_refusal, row_of, changed, leaves_all, leaves_too, read_of, is_sync, reads_sync, sync_in_run, skips_by, skips_read, skips, Refused}
 use Rattle.rules.specs.Replies.{Outcome, outcome, sent}
@@ -97,7 +97,7 @@ kept_row b s n h =
     or_cases (eqb n elsewhere) _ h (λ e. rw (eqb-true n elsewhere e) refl)
     (λ h1. or_cases (eqb n crc) _ h1 (λ e. rw (eqb-true n crc e) refl)
     (λ h2. or_cases (eqb n source) _ h2 (λ e. rw (eqb-true n source e) refl)
-    (λ h3. or_cases (eqb n addressee) (eqb n repeat) h3 (λ e. rw (eqb-true n addressee e) refl) (λ e. rw (eqb-true n repeat e) refl))))
+    (λ h3. or_cases (eqb n addressee) _ h3 (λ e. rw (eqb-true n addressee e) refl) (λ e. rw (eqb-true n _ e) refl))))
 
 -- and so for the others
 kept_row_too : (b : Bool) (s n : ℕ) → leaves_too n ≡ true → row_of b s n ≡ nothing

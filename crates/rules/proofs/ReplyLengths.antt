@@ -1,17 +1,15 @@
 -- What a call sends fits the reply buffer that document 01 asks for: a reply carries at most 254 data bytes. Assumes nothing.
-use mathlib.Core.Bool.{Bool, false, not, ◌||◌}
+use mathlib.Core.Bool.{Bool, not, ◌||◌}
 use mathlib.Core.List.{List, []}
-use mathlib.Core.Path.{◌≡◌, refl, ap}
-use Prim.Native.Nat.{ℕ, ◌+◌, ◌≤◌, ◌<◌}
+use mathlib.Core.Path.{◌≡◌, refl}
+use Prim.Native.Nat.{ℕ, ◌≤◌}
 use native.Mathlib.Omega.{arith}
 use borrow.Author.Tests.{eqb-false, not-false}
 use lib.Dec.{eqb, ltb}
-use lib.ListN.{length, length-append, length-take}
+use lib.ListN.{length}
 use Rattle.base.specs.Bytes.{Bytes}
 use Rattle.base.specs.Choice.{choose}
 use Rattle.base.proofs.Choosing.{by_test, or_left_false, or_right_false}
-use Rattle.base.proofs.Numbers.{length_bytes_of}
-use Rattle.fields.proofs.Tables.{length_laid}
 use Rattle.wire.specs.Body.{read_body, fcs_of}
 use Rattle.wire.specs.declared.Verdict.{Verdict}
 use Rattle.wire.specs.declared.Verdict.TheVariants as verdict
@@ -20,7 +18,7 @@ use Rattle.laying.proofs.LayingLaws.{line_most}
 use Rattle.frame_kinds.specs.Kinds.{app_of}
 use Rattle.frame_kinds.specs.declared.kinds.Frame.{Frame}
 use Rattle.frame_kinds.specs.declared.kinds.Frame.TheVariants.{Sync, SafeRead, SafeWrite, PlainRead, PlainWrite, SafeResponse, PlainSyncResponse, PlainResponse, TidAssignment, SidAssignment, SidAssignment4, Acknowledgement, Invariants}
-use Rattle.frame_kinds.proofs.Parts.{app_parts, app_length}
+use Rattle.frame_kinds.proofs.Parts.{app_length}
 use Rattle.frame_forms.specs.declared.Read.{Read}
 use Rattle.frame_forms.specs.declared.Read.TheVariants.{Valid, Kind, Form, Check}
 use Rattle.frame_reading.proofs.Receiving.{app_in}
@@ -30,12 +28,12 @@ use Rattle.rules.specs.Calls.{least_room, tick_call, frame_call, Call, tick, fra
 use Rattle.rules.specs.FrameCall.{on_kind, on_read, is_own, on_app, on_verdict, on_body, on_frame}
 use Rattle.rules.specs.Good.{Good, BytesCall}
 use Rattle.rules.specs.Refusals.{read_of}
-use Rattle.rules.specs.Registers.{mac_at, ad_ref, sz_ref, image, low_number}
-use Rattle.rules.specs.Replies.{Outcome, does, replies, response, sync_reply, read_reply, acknowledges, muted, reply_data, send_frame, sent}
+use Rattle.rules.specs.Registers.{mac_at, sz_ref, image, low_number}
+use Rattle.rules.specs.Replies.{Outcome, acknowledges, muted, reply_data, send_frame, sent}
 use Rattle.rules.specs.Requests.{on_distance, on_request}
 use Rattle.rules.specs.Sound.{sound}
 use Rattle.rules.specs.Sources.{is_recorded, sid_of}
-use Rattle.rules.specs.State.{nobody, reg}
+use Rattle.rules.specs.State.{nobody}
 use Rattle.rules.specs.Sync.{synced, on_sync}
 use Rattle.rules.specs.Writes.{on_write}
 use Rattle.rules.specs.declared.Agent.{Agent}
@@ -45,13 +43,9 @@ use Rattle.rules.proofs.Hearing.{good_synced}
 use Rattle.rules.proofs.Kept.{GoodTo}
 use Rattle.rules.proofs.ReadFits.{read_fitting}
 use Rattle.rules.proofs.ServedFrames.{reads_frame}
+use Rattle.rules.proofs.ShortReplies.{Short, silent, says, sync_short, read_short}
 
 -- ---- what is short
-
--- no reply, or one with at most 269 bytes of application data: 254 data bytes and the 15 others of a safe response
-data Short : Deed → Type 0 where
-  silent : {n : ℕ} {a : Agent} → Short (does n a)
-  says : (a : Agent) (f : Frame) → length (app_of f (reply_data a f)) ≤ 269 → Short (replies a f)
 
 abbrev Fits : Outcome → Type 0
 Fits o = length o.line ≤ least_room
@@ -63,26 +57,6 @@ short_fits silent = omega arith
 short_fits (says a f h) =
     let ys : List ℕ = app_of f (reply_data a f) in
     by_test Fits (muted a) (λ e. omega arith) (λ e. omega (arith, line_most (fcs_of 0xF0 ys) 0xF0 ys))
-
--- ---- the replies
-
--- DATL of a response, where it is no error: it is a byte, and neither 0 nor 255
-datl_most : (n add : ℕ) → n < 256 → (eqb n 0 || eqb n 255 || ltb 256 (add + n)) ≡ false → n ≤ 254
-datl_most n add h e = omega (arith, eqb-false n 255 (or_right_false (eqb n 0) _ (or_left_false (eqb n 0 || eqb n 255) _ e)))
-
-module _ (port : ℕ) (a : Agent) where
-  response_short : {src seq kind n add : ℕ} → n ≤ 254 → Short (replies a (response port a src seq kind n add))
-  response_short {src} {seq} {kind} {n} {add} h =
-      let f : Frame = response port a src seq kind n add in
-      says a f (omega (arith, simp (length-append, length_laid, length_bytes_of, length-take) at (ap length (app_parts f (reply_data a f)))))
-
-  sync_short : (src cyc : ℕ) → reg a sz_ref < 256 → Short (sync_reply port a src cyc)
-  unfolding sync_reply
-  sync_short src cyc h = by_test Short _ (λ e. response_short (omega arith)) (λ e. response_short (datl_most (reg a sz_ref) (reg a ad_ref) h e))
-
-  read_short : (src seq datl add : ℕ) → datl < 256 → Short (read_reply port a src seq datl add)
-  unfolding read_reply
-  read_short src seq datl add h = by_test Short _ (λ e. response_short (omega arith)) (λ e. response_short (datl_most datl add h e))
 
 acknowledged_short : (a : Agent) (src sec : ℕ) → Short (acknowledges a src sec)
 unfolding acknowledges

@@ -15,16 +15,16 @@ withheld = 0xAA
 
 -- 26h: the ground if this is a passage from RUN, else as it was
 abbrev pub ground_after : ℕ → Agent → ℕ
-ground_after ground a = choose (running a) ground (reg a ground_at)
+ground_after cause a = choose (running a) cause (reg a ground_at)
 
 -- sets 80h to BFh to 00h, OUT_REP to AAh, q to 0 and STATUT bit 7, and clears the mark; from RUN, 26h shows the ground; c, heard,
 -- e, s, k and the sources stay
 unfoldable pub enter_fallback : ℕ → Agent → Agent
-enter_fallback ground a =
+enter_fallback cause a =
     with_mark unmarked
     (with_mode in_fallback 0
     (store_all outputs_at (replicate image 0)
-    (store ground_at (ground_after ground a) (store out_rep withheld (store statut (bit_or (reg a statut) 0x80) a)))))
+    (store ground_at (ground_after cause a) (store out_rep withheld (store statut (bit_or (reg a statut) 0x80) a)))))
 
 -- the mode becomes RUN, STATUT bit 7 is cleared, q = 0
 unfoldable pub enter_run : Agent → Agent

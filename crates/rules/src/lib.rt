@@ -1,4 +1,5 @@
 // The state of the module's bus agent. What the calls do to it is defined in specs/, in the order of document 01.
+#![tactic(auto)]
 
 ghost use Rattle.std.specs.Prelude.{◌≡◌};
 
@@ -6,7 +7,7 @@ use frame_kinds::kinds::Frame;
 
 // What is fixed at power-up: no call changes it.
 #[repr(C)]
-#[derive(Drop)]
+#[derive(Clone, Copy)]
 pub struct Fixed {
     // the limit of requests in a cycle: 16 or 64
     pub limit: u8,
@@ -14,7 +15,7 @@ pub struct Fixed {
 
 // Unsigned numbers and arrays only: every bit pattern that a host passes in is a value, and the test for soundness decides.
 #[repr(C)]
-#[derive(Drop)]
+#[derive(Clone, Copy)]
 pub struct Agent {
     pub regs: [u8; 256],
     // the recorded concentrators are the first `count` of these
@@ -42,7 +43,7 @@ pub struct Agent {
 }
 
 // The write spans; a write covers one of them or a part of it. `Outside` is none of them.
-#[derive(Drop)]
+#[derive(Clone, Copy)]
 pub enum Span {
     Release,
     CycleTime,
@@ -54,14 +55,14 @@ pub enum Span {
 }
 
 // What the module is to send because of a frame: nothing, or a frame.
-#[derive(Drop)]
+#[derive(Clone, Copy)]
 pub enum Reply {
     Silent,
     Says(Frame),
 }
 
 // What a frame does: the answer, the agent afterwards, and what is to be sent.
-#[derive(Drop)]
+#[derive(Clone, Copy)]
 pub struct Deed {
     pub answer: u8,
     pub agent: Agent,

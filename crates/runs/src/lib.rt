@@ -1,5 +1,7 @@
 // Any list of calls, passed in as bytes and made one after another from power-up, each on the agent that the one before
 // left; what each answered and left is written down. Of the calls only their contracts are used.
+#![tactic(auto)]
+
 ghost use Rattle.std.specs.Prelude.{length};
 ghost use Rattle.runs.specs.Log.{RunsAny};
 

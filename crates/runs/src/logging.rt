@@ -10,6 +10,7 @@ use rules::Agent;
 pub const RECORD: usize = 258;
 
 // Writes a record at index `at`; returns the next index.
+#[tactic(auto, using(crate::proofs::LogLaws::two_then))]
 pub fn put(answer: u8, a: Agent, log: &mut [u8], at: usize) -> usize
     requires { at + record_size ≤ length log.old }
     ensures { (result ≡ at + record_size) × (length a.regs ≡ 256) × (log.new ≡ sets log.old at (record_of answer a)) }

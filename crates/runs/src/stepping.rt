@@ -23,7 +23,7 @@ fn call(a: Agent, kind: u8, port: u8, bytes: &[u8], reply: &mut [u8]) -> Told
 }
 
 // The answer, the agent afterwards, and the index of the next call.
-#[derive(Drop)]
+#[derive(Clone, Copy)]
 pub struct Made {
     pub answer: u8,
     pub agent: Agent,

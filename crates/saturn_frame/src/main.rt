@@ -1,4 +1,8 @@
 // The program saturn-frame: a list on standard input, the answer to each line on standard output.
-fn main() {
-    framing::run();
+#![tactic(auto)]
+
+use std::io;
+
+fn main(rt: HostRuntime) -> io::Result<()> {
+    framing::run(&mut rt.stdin(), &mut rt.stdout())
 }

@@ -1,4 +1,8 @@
 // Plays a script from standard input on a module, and prints for each cycle its share of the line.
-fn main() {
-    load::run();
+#![tactic(auto)]
+
+use std::io;
+
+fn main(rt: HostRuntime) -> io::Result<()> {
+    load::run(&mut rt.stdin(), &mut rt.stdout())
 }

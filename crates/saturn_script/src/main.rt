@@ -1,6 +1,9 @@
 // Plays a script from standard input on a module, and prints four fields for each line.
-use script_text::View;
+#![tactic(auto)]
 
-fn main() {
-    script::run(View::Script);
+use script_text::View;
+use std::io;
+
+fn main(rt: HostRuntime) -> io::Result<()> {
+    script::run(&mut rt.stdin(), &mut rt.stdout(), View::Script)
 }

@@ -1,6 +1,9 @@
 // Plays a script as saturn_script does, and also prints the reply and the registers.
-use script_text::View;
+#![tactic(auto)]
 
-fn main() {
-    script::run(View::Trace);
+use script_text::View;
+use std::io;
+
+fn main(rt: HostRuntime) -> io::Result<()> {
+    script::run(&mut rt.stdin(), &mut rt.stdout(), View::Trace)
 }

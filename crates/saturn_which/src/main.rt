@@ -1,4 +1,8 @@
 // Reads a script from standard input, and prints which one frame of it mattered.
-fn main() {
-    which::run();
+#![tactic(auto)]
+
+use std::io;
+
+fn main(rt: HostRuntime) -> io::Result<()> {
+    which::run(&mut rt.stdin(), &mut rt.stdout())
 }

@@ -1,4 +1,6 @@
 // Scripts played from power-up, line by line, and the loop over all of them.
+#![tactic(auto)]
+
 pub mod playing;
 mod running;
 

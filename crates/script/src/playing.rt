@@ -13,14 +13,14 @@ use script_lines::forms::{Form, is_bad, no_bytes, read_line};
 use script_text::{View, no_text, put_line};
 use text::putting::put_text;
 
-#[derive(Drop)]
+#[derive(Clone, Copy)]
 pub struct Player {
     pub agent: Agent,
     pub lines: u64,
 }
 
 // The player after a line, and the index after the line's text.
-#[derive(Drop)]
+#[derive(Clone, Copy)]
 pub struct Played {
     pub player: Player,
     pub next: usize,
@@ -65,7 +65,7 @@ fn play_form(
     let agent = p.agent;
     let mut reply = no_reply();
     let h = do_form(agent, form, bytes, &mut reply);
-    let number = std::num::wrapping_add_u64(p.lines, 1);
+    let number = p.lines.wrapping_add(1);
     let next = show(out, at, view, number, is_bad(form), h, &reply);
     let left = h.agent;
     let player = Player {

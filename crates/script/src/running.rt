@@ -1,6 +1,6 @@
 // A script from standard input, line by line, and its text to standard output.
-ghost use Rattle.std.specs.Prelude.{◌≡◌, true};
-ghost use Rattle.console.specs.Answering.{Whole};
+ghost use Rattle.std.specs.Prelude.{◌≡◌, true, IfOk, OnErr};
+ghost use Rattle.console.specs.Answering.{Whole, Left};
 ghost use Rattle.script.specs.Playing.{scripted};
 
 use crate::playing;
@@ -8,37 +8,43 @@ use crate::playing::play_line;
 use console::lines::Cursor;
 use console::{blocks, lines};
 use script_text::View;
+use std::io;
+use std::io::{Read, Write};
 
 // The header, and the text of every line. It is handed on when the output is full; its end is still in the output on return.
-fn play_all(
+// An error of the input or the output ends the work; the last text may then be in the output, and the cursor is gone.
+#[tactic(auto, using(console::proofs::AnsweringLaws::stands_left))]
+fn play_all<R: Read, W: Write>(
+    input: &mut R,
+    output: &mut W,
     view: View,
     block: &mut [u8; 65536],
     line: &mut [u8; 1200],
     out: &mut [u8; 16384],
-) -> Cursor
-    ensures { result.ended ≡ true → Whole (scripted view) block.new out.new result }
+) -> io::Result<Cursor>
+    ensures ok { IfOk result (λ c. c.ended ≡ true → Whole (scripted view) block.new out.new c) }
+    ensures err { OnErr result (Left (scripted view) out.new) }
 {
     let mut p = playing::start();
     let to = script_text::put_header(out, 0, view);
     let mut c = lines::begin(to);
-    let mut turns = u64::MAX;
-    while turns > 0 {
-        c = lines::next_line(block, line, out, c);
+    for _ in 0..u64::MAX {
+        c = lines::next_line(input, output, block, line, out, c)?;
         if !c.whole {
-            return c;
+            return Ok(c);
         }
         let played = play_line(p, view, line, c.len, out, c.to);
         p = played.player;
         c.to = played.next;
-        turns -= 1;
     }
-    c
+    Ok(c)
 }
 
-pub fn run(view: View) {
-    let mut block = io::large_buffer();
+pub fn run<R: Read, W: Write>(input: &mut R, output: &mut W, view: View) -> io::Result<()> {
+    let mut block = blocks::no_input();
     let mut line = text::lines::no_line();
     let mut out = blocks::no_output();
-    let c = play_all(view, &mut block, &mut line, &mut out);
-    lines::close(&out, c);
+    let c = play_all(input, output, view, &mut block, &mut line, &mut out)?;
+    lines::close(output, &out, c)?;
+    Ok(())
 }

@@ -93,6 +93,7 @@ fn frame(a: Agent, port: u8, bytes: &[u8], n: usize, reply: &mut [u8; 545]) -> H
 }
 
 // Does what a line asks for, with the bytes of the line; the reply is left in the buffer.
+#[tactic(auto, using(crate::proofs::DoingLaws::told_accepted))]
 pub fn do_form(a: Agent, form: Form, bytes: &[u8], reply: &mut [u8; 545]) -> Handled
     ensures { (result.sent ≤ 545) × (told result reply.new ≡ done a (step_in form bytes.now)) × (result.sent ≡ length (done a (step_in form bytes.now)).line) }
 {

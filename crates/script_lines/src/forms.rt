@@ -8,7 +8,7 @@ use text::decimal::{Decimal, read_decimal};
 use text::hex::{Hex, hex_bytes};
 
 // What a line asks for: a number of ticks; a body on a port, by its length; inputs. The bytes are kept in a buffer of their own.
-#[derive(Drop)]
+#[derive(Clone, Copy)]
 pub enum Form {
     Ticks(u64),
     Frame(u8, usize),
@@ -41,6 +41,7 @@ fn read_ticks(text: &[u8]) -> Form
 }
 
 // The body after the space.
+#[tactic(auto, using(text::proofs::HexRead::bytes_got, text::proofs::HexRead::not_hex, crate::proofs::FormLaws::got_room))]
 fn read_frame(text: &[u8], port: u8, bytes: &mut [u8; 600]) -> Form
     requires { length text.now ≤ 1200 }
     ensures { step_in result bytes.new ≡ frame_of port (hex_pairs (drop 2 text.now)) }
@@ -53,6 +54,7 @@ fn read_frame(text: &[u8], port: u8, bytes: &mut [u8; 600]) -> Form
 }
 
 // The inputs after the space.
+#[tactic(auto, using(text::proofs::HexRead::bytes_got, text::proofs::HexRead::not_hex, crate::proofs::FormLaws::got_room, crate::proofs::FormLaws::inputs_64, crate::proofs::FormLaws::inputs_other))]
 fn read_inputs(text: &[u8], bytes: &mut [u8; 600]) -> Form
     requires { length text.now ≤ 1200 }
     ensures { step_in result bytes.new ≡ inputs_of (hex_pairs (drop 2 text.now)) }
@@ -70,6 +72,7 @@ fn read_inputs(text: &[u8], bytes: &mut [u8; 600]) -> Form
 }
 
 // By the first character.
+#[tactic(auto, using(base::proofs::Choosing::and_left, crate::proofs::FormLaws::form_ticks, crate::proofs::FormLaws::form_port, crate::proofs::FormLaws::form_inputs, crate::proofs::FormLaws::form_other))]
 fn read_form(c: u8, text: &[u8], bytes: &mut [u8; 600]) -> Form
     requires { length text.now ≤ 1200 }
     ensures { step_in result bytes.new ≡ form_of c (drop 2 text.now) }
@@ -88,6 +91,7 @@ fn read_form(c: u8, text: &[u8], bytes: &mut [u8; 600]) -> Form
 }
 
 // The characters of a line.
+#[tactic(auto, using(crate::proofs::FormLaws::text_long, crate::proofs::FormLaws::text_short, crate::proofs::FormLaws::text_other, crate::proofs::FormLaws::text_form))]
 fn read_text(text: &[u8], bytes: &mut [u8; 600]) -> Form
     ensures { step_in result bytes.new ≡ line_of text.now }
 {
@@ -104,6 +108,7 @@ fn read_text(text: &[u8], bytes: &mut [u8; 600]) -> Form
 }
 
 // A line of `len` characters; if the buffer does not hold them all, the line is bad.
+#[tactic(auto, using(crate::proofs::FormLaws::line_long, crate::proofs::FormLaws::line_held))]
 pub fn read_line(line: &[u8], len: usize, bytes: &mut [u8; 600]) -> Form
     ensures { step_in result bytes.new ≡ line_in line.now len }
 {

@@ -1,4 +1,6 @@
 // What is printed for a line of a script, put together in a buffer that has room for the longest text.
+#![tactic(auto)]
+
 ghost use Rattle.std.specs.Prelude.{◌≡◌, ◌+◌, ◌≤◌, length, take, replicate};
 ghost use Rattle.text.specs.Putting.{put_at, place_after, Wrote};
 ghost use Rattle.agent_replies.specs.Handling.{told};
@@ -11,7 +13,7 @@ use text::decimal::put_decimal;
 use text::putting::{put_byte, put_bytes, put_text};
 
 // The four fields of saturn-script; or, with them, the reply and the registers.
-#[derive(Drop)]
+#[derive(Clone, Copy)]
 pub enum View {
     Script,
     Trace,
@@ -47,6 +49,7 @@ fn put_answer(buf: &mut [u8], at: usize, number: u64, answer: u8) -> usize
 }
 
 // F or R.
+#[tactic(auto, using(text::proofs::PuttingLaws::same_put, crate::proofs::PrintingLaws::mode_run, crate::proofs::PrintingLaws::mode_fallback))]
 fn put_mode(buf: &mut [u8], at: usize, a: Agent) -> usize
     ensures { (result ≡ place_after (length buf.old) at (mode_text a)) × (buf.new ≡ put_at buf.old at (mode_text a)) }
 {
@@ -66,6 +69,7 @@ fn put_state(buf: &mut [u8], at: usize, a: Agent) -> usize
 }
 
 // What was sent, or that nothing was.
+#[tactic(auto, using(text::proofs::PuttingLaws::same_put, crate::proofs::PrintingLaws::reply_none, crate::proofs::PrintingLaws::reply_some))]
 fn put_reply(buf: &mut [u8], at: usize, reply: &[u8], sent: usize) -> usize
     requires { sent ≤ length reply.now }
     ensures { (result ≡ place_after (length buf.old) at (reply_text (take sent reply.now))) × (buf.new ≡ put_at buf.old at (reply_text (take sent reply.now))) }
@@ -88,6 +92,7 @@ fn put_trace(buf: &mut [u8], at: usize, reply: &[u8], sent: usize, regs: &[u8]) 
 }
 
 // What the trace shows in addition.
+#[tactic(auto, using(text::proofs::PuttingLaws::wrote_nothing))]
 fn put_view(buf: &mut [u8], at: usize, view: View, h: Handled, reply: &[u8]) -> usize
     requires { (h.sent ≤ length reply.now) × (h.sent ≤ 545) × (at + 1605 ≤ length buf.old) }
     ensures { Wrote buf.old at (view_text view (told h reply.now)) result buf.new }
@@ -103,6 +108,7 @@ fn put_view(buf: &mut [u8], at: usize, view: View, h: Handled, reply: &[u8]) -> 
 }
 
 // The fields of a line.
+#[tactic(auto, using(crate::proofs::PrintingLaws::answer_room, crate::proofs::PrintingLaws::state_room))]
 fn put_fields(buf: &mut [u8], view: View, number: u64, h: Handled, reply: &[u8]) -> usize
     requires { (h.sent ≤ length reply.now) × (h.sent ≤ 545) × (1700 ≤ length buf.old) }
     ensures { Wrote buf.old 0 (fields_text view number (told h reply.now)) result buf.new }

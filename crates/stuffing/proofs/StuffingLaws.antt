@@ -7,8 +7,6 @@ use Prim.Native.Nat.{ℕ, ◌+◌, ◌*◌, ◌≤◌, ◌<◌}
 use native.Mathlib.Omega.{arith}
 use native.Mathlib.Nat.{zero-add, add-zero, add-suc, suc-add}
 use native.Mathlib.Numerals.{add-one}
-use types.Run.{OneOf, miss}
-use denote.Enum.Declared.{tag_of}
 use borrow.Author.Tests.{eq-eqb, ne_eqb, eqb-true, eqb-false}
 use lib.Dec.{eqb}
 use lib.ListN.{length, replicate, drop, get_or, set, length-append, drop_of_length-le}
@@ -18,7 +16,6 @@ use Rattle.base.specs.Choice.{choose}
 use Rattle.stuffing.specs.Stuffing.{stuff_byte, stuff, meaning_of, prepend, before, at_end, unstuff_from, plain_of, Unstuffed}
 use Rattle.stuffing.specs.declared.Meaning.{Meaning}
 use Rattle.stuffing.specs.declared.Meaning.TheVariants.{Plain, Escape, Wrong}
-use Rattle.stuffing.specs.contracts.Meaning.{the_type}
 
 -- the three cases of a byte
 pub byte_flag : (b : ℕ) → b ≡ 0x7E → stuff_byte b ≡ 0x7D ∷ 0x5E ∷ []
@@ -110,13 +107,13 @@ unfolding unstuff_from
 unstuff_end s i e h = rw drop_of_length-le
 
 -- after an escape, a byte that is not plain is wrong
-pub escaped_wrong : (b : ℕ) → OneOf (1 ∷ 2 ∷ []) (tag_of the_type (meaning_of true b)) → meaning_of true b ≡ Wrong
+pub escaped_wrong : (b : ℕ) → ((x : ℕ) → meaning_of true b ≡ Plain x → ⊥) → meaning_of true b ≡ Wrong
 unfolding meaning_of
 escaped_wrong b = by (eqb b 0x5E) (eqb b 0x5D)
   where
-    by : (t u : Bool) → (let m = choose t (Plain 0x7E) (choose u (Plain 0x7D) Wrong) in OneOf (1 ∷ 2 ∷ []) (tag_of the_type m) → m ≡ Wrong)
-    by true u k = absurd (miss (1 ∷ 2 ∷ []) 0 tt k)
-    by false true k = absurd (miss (1 ∷ 2 ∷ []) 0 tt k)
+    by : (t u : Bool) → (let m = choose t (Plain 0x7E) (choose u (Plain 0x7D) Wrong) in ((x : ℕ) → m ≡ Plain x → ⊥) → m ≡ Wrong)
+    by true u k = absurd (k 0x7E refl)
+    by false true k = absurd (k 0x7D refl)
     by false false k = refl
 
 -- the three ways of a turn

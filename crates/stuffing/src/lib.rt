@@ -1,4 +1,6 @@
 // Stuffing: 7Eh is sent as 7Dh 5Eh, 7Dh as 7Dh 5Dh.
+#![tactic(auto)]
+
 ghost use Rattle.std.specs.Prelude.{◌≡◌, true, ◌+◌, ◌<◌, ◌≤◌, length, replicate, set};
 ghost use Rattle.std.proofs.Math.Option.{none};
 ghost use Rattle.std.proofs.lemmas.List.Edits.{sets};
@@ -14,6 +16,7 @@ pub const FLAG_SENT: u8 = 0x5E;
 pub const ESCAPE_SENT: u8 = 0x5D;
 
 // Stores one byte, stuffed, at index `at`; returns the next index.
+#[tactic(auto, using(crate::proofs::StuffingLaws::byte_flag, crate::proofs::StuffingLaws::byte_escape, crate::proofs::StuffingLaws::byte_other))]
 fn put(dst: &mut [u8], at: usize, b: u8) -> usize
     requires { at + length (stuff_byte b) ≤ length dst.old }
     ensures { (result ≡ at + length (stuff_byte b)) × (dst.new ≡ sets dst.old at (stuff_byte b)) }
@@ -33,6 +36,7 @@ fn put(dst: &mut [u8], at: usize, b: u8) -> usize
 }
 
 // Stores the source, stuffed, starting at index `from`; returns the next index.
+#[tactic(auto, using(crate::proofs::StuffingLaws::stuff_end))]
 pub fn stuff_at(src: &[u8], dst: &mut [u8], from: usize) -> usize
     requires { from + length (stuff src.now) ≤ length dst.old }
     ensures { (result ≡ from + length (stuff src.now)) × (dst.new ≡ sets dst.old from (stuff src.now)) }
@@ -47,6 +51,7 @@ pub fn stuff_at(src: &[u8], dst: &mut [u8], from: usize) -> usize
 }
 
 // How many bytes one byte becomes when it is stuffed.
+#[tactic(auto, using(crate::proofs::StuffingLaws::byte_flag, crate::proofs::StuffingLaws::byte_escape, crate::proofs::StuffingLaws::byte_other))]
 fn width(b: u8) -> usize
     ensures { result ≡ length (stuff_byte b) }
 {
@@ -60,6 +65,7 @@ fn width(b: u8) -> usize
 }
 
 // The same for a slice.
+#[tactic(auto, using(crate::proofs::StuffingLaws::stuff_end, crate::proofs::StuffingLaws::byte_most))]
 pub fn stuffed_len(src: &[u8]) -> usize
     requires { length src.now ≤ 65535 }
     ensures { result ≡ length (stuff src.now) }
@@ -74,13 +80,14 @@ pub fn stuffed_len(src: &[u8]) -> usize
 }
 
 // What a received byte means, after an escape or not.
-#[derive(Drop)]
+#[derive(Clone, Copy)]
 pub enum Meaning {
     Plain(u8),
     Escape,
     Wrong,
 }
 
+#[tactic(auto, unfolding(crate::specs::Stuffing::meaning_of))]
 fn meaning_of(escaped: bool, b: u8) -> Meaning
     ensures { result ≡ meaning_of escaped b }
 {
@@ -103,7 +110,7 @@ fn meaning_of(escaped: bool, b: u8) -> Meaning
 }
 
 // What unstuffing tells of the received bytes: whether they are right, and how many there are without their escapes.
-#[derive(Drop)]
+#[derive(Clone, Copy)]
 pub struct Count {
     pub right: bool,
     pub len: usize,
@@ -143,6 +150,7 @@ fn store(bytes: &mut [u8; 272], fits: bool, at: usize, b: u8)
 
 // The received bytes without their escapes, into an array that the caller lends: the first 272 of them. A source of at most 272
 // bytes fits, so the compiler gives it a loop of its own.
+#[tactic(auto, using(crate::proofs::StuffingLaws::extend_start, crate::proofs::StuffingLaws::extend_end, crate::proofs::StuffingLaws::unstuff_end, crate::proofs::StuffingLaws::turn_wrong), unfolding(crate::specs::Stuffing::unstuff))]
 pub fn unstuff_into(s: &[u8], bytes: &mut [u8; 272]) -> Count
     requires { bytes.old ≡ replicate 272 0 }
     ensures { unstuffed_in result bytes.new ≡ plain_of (unstuff s.now) }

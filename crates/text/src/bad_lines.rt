@@ -14,6 +14,7 @@ fn no_text() -> [u8; 32]
 }
 
 // Puts the number of a line and BAD at index `at`, whole or not at all; returns the next index.
+#[tactic(auto, using(crate::proofs::BadLineLaws::bad_put, crate::proofs::PuttingLaws::same_put))]
 pub fn put_bad(buf: &mut [u8], at: usize, number: u64) -> usize
     ensures { (result ≡ place_after (length buf.old) at (bad_text number)) × (buf.new ≡ put_at buf.old at (bad_text number)) }
 {

@@ -7,13 +7,14 @@ use crate::hex::digit_value;
 use crate::putting::put_text;
 
 // A number, or something else.
-#[derive(Drop)]
+#[derive(Clone, Copy)]
 pub enum Decimal {
     Number(u64),
     NotNumber,
 }
 
 // The number in the digits from index `from` to the line's end, if it is at most the limit.
+#[tactic(auto, using(crate::proofs::DecimalLaws::past_limit, crate::proofs::DecimalLaws::within_limit, crate::proofs::DecimalLaws::digit_other, crate::proofs::DecimalLaws::digit_more))]
 fn read_digits(line: &[u8], from: usize, limit: u32) -> Decimal
     ensures { result ≡ up_to limit (digits_from 0 (drop from line.now)) }
 {
@@ -35,6 +36,7 @@ fn read_digits(line: &[u8], from: usize, limit: u32) -> Decimal
 }
 
 // The number from index `from` to the line's end: 1 or more, with no leading zero, and at most the limit.
+#[tactic(auto, using(crate::proofs::DecimalLaws::first_none, crate::proofs::DecimalLaws::first_zero, crate::proofs::DecimalLaws::first_other))]
 pub fn read_decimal(line: &[u8], from: usize, limit: u32) -> Decimal
     ensures { result ≡ decimal_of limit (drop from line.now) }
 {
@@ -48,12 +50,13 @@ pub fn read_decimal(line: &[u8], from: usize, limit: u32) -> Decimal
 }
 
 // The digits of a number: those from index `from` to the end of the array.
-#[derive(Drop)]
+#[derive(Clone, Copy)]
 struct Digits {
     chars: [u8; 20],
     from: usize,
 }
 
+#[tactic(auto, using(crate::proofs::DecimalLaws::stands_more, crate::proofs::DecimalLaws::stands_turn, crate::proofs::DecimalLaws::stands_end))]
 fn digits_of(n: u64) -> Digits
     ensures { (result.from ≤ 20) × (length result.chars ≡ 20) × (drop result.from result.chars ≡ digits 20 n) }
 {
@@ -69,6 +72,7 @@ fn digits_of(n: u64) -> Digits
 }
 
 // Puts a number in decimal at index `at`; returns the next index.
+#[tactic(auto, using(crate::proofs::DecimalLaws::text_zero, crate::proofs::DecimalLaws::text_digits))]
 pub fn put_decimal(buf: &mut [u8], at: usize, n: u64) -> usize
     ensures { (result ≡ place_after (length buf.old) at (decimal_text n)) × (buf.new ≡ put_at buf.old at (decimal_text n)) }
 {

@@ -15,12 +15,13 @@ pub fn digit_value(c: u8) -> u8
 }
 
 // Two characters: the byte that they stand for, or not two digits.
-#[derive(Drop)]
+#[derive(Clone, Copy)]
 pub enum Pair {
     Byte(u8),
     Other,
 }
 
+#[tactic(auto, using(crate::proofs::HexLaws::pair_high, crate::proofs::HexLaws::pair_low, crate::proofs::HexLaws::pair_both))]
 fn pair_of(a: u8, b: u8) -> Pair
     ensures { result ≡ pair_of a b }
 {
@@ -36,6 +37,7 @@ fn pair_of(a: u8, b: u8) -> Pair
 }
 
 // The two characters starting at index `i`.
+#[tactic(auto, using(crate::proofs::HexLaws::at_end_lem, crate::proofs::HexLaws::at_pair))]
 fn pair_at(line: &[u8], i: usize) -> Pair
     ensures { result ≡ pair_at line.now i }
 {
@@ -49,7 +51,7 @@ fn pair_at(line: &[u8], i: usize) -> Pair
 }
 
 // The result of reading: the number of bytes, or something other than pairs of digits, or more bytes than there is room for.
-#[derive(Drop)]
+#[derive(Clone, Copy)]
 pub enum Hex {
     Bytes(usize),
     NotHex,
@@ -57,6 +59,7 @@ pub enum Hex {
 }
 
 // How many bytes there are from index `from` to the line's end.
+#[tactic(auto, using(crate::proofs::HexLaws::pairs_end, crate::proofs::HexLaws::count_end, crate::proofs::HexLaws::count_byte, crate::proofs::HexLaws::count_other))]
 fn count_pairs(line: &[u8], from: usize) -> Hex
     ensures { result ≡ count_of 0 (hex_pairs (drop from line.now)) }
 {
@@ -76,6 +79,7 @@ fn count_pairs(line: &[u8], from: usize) -> Hex
 }
 
 // Puts those bytes at the buffer's start, as many as it has room for; returns whether all characters were pairs of digits.
+#[tactic(auto, using(crate::proofs::HexLaws::pairs_end, crate::proofs::HexLaws::store_byte, crate::proofs::HexLaws::store_other))]
 fn fill(line: &[u8], from: usize, out: &mut [u8]) -> bool
     ensures { filled result out.new ≡ stored out.old 0 (hex_pairs (drop from line.now)) }
 {
@@ -99,6 +103,7 @@ fn fill(line: &[u8], from: usize, out: &mut [u8]) -> bool
 }
 
 // Puts the bytes from index `from` to the line's end at the buffer's start; if refused, the buffer is left as it was.
+#[tactic(auto, using(crate::proofs::HexLaws::read_not, crate::proofs::HexLaws::read_never, crate::proofs::HexLaws::read_long, crate::proofs::HexLaws::read_bytes_lem))]
 pub fn hex_bytes(line: &[u8], from: usize, out: &mut [u8]) -> Hex
     ensures { (result ≡ hex_of (length out.old) (hex_pairs (drop from line.now))) × (out.new ≡ hex_left (hex_pairs (drop from line.now)) out.old) }
 {

@@ -14,6 +14,7 @@ fn has_room(len: usize, at: usize, n: usize) -> bool
 }
 
 // Puts a text at index `at`; returns the next index.
+#[tactic(auto, using(crate::proofs::PuttingLaws::put_fits, crate::proofs::PuttingLaws::put_not))]
 pub fn put_text(buf: &mut [u8], at: usize, text: &[u8]) -> usize
     ensures { (result ≡ place_after (length buf.old) at text.now) × (buf.new ≡ put_at buf.old at text.now) }
 {
@@ -29,6 +30,7 @@ pub fn put_text(buf: &mut [u8], at: usize, text: &[u8]) -> usize
 }
 
 // A capital hex digit.
+#[tactic(auto, unfolding(crate::specs::Putting::digit_of))]
 fn digit_of(n: u8) -> u8
     requires { n < 16 }
     ensures { result ≡ digit_of n }
@@ -39,6 +41,7 @@ fn digit_of(n: u8) -> u8
     n + 0x37
 }
 
+#[tactic(auto, unfolding(crate::specs::Putting::hex_digits))]
 fn store_digits(buf: &mut [u8], at: usize, b: u8)
     requires { at + 2 ≤ length buf.old }
     ensures { buf.new ≡ sets buf.old at (hex_digits b) }
@@ -48,6 +51,7 @@ fn store_digits(buf: &mut [u8], at: usize, b: u8)
 }
 
 // Puts a byte in two digits; returns the next index.
+#[tactic(auto, using(crate::proofs::PuttingLaws::put_fits, crate::proofs::PuttingLaws::put_not, crate::proofs::PuttingLaws::digits_two))]
 pub fn put_byte(buf: &mut [u8], at: usize, b: u8) -> usize
     ensures { (result ≡ place_after (length buf.old) at (hex_digits b)) × (buf.new ≡ put_at buf.old at (hex_digits b)) }
 {
@@ -59,6 +63,7 @@ pub fn put_byte(buf: &mut [u8], at: usize, b: u8) -> usize
 }
 
 // Puts bytes in two digits each; returns the next index.
+#[tactic(auto, using(crate::proofs::PuttingLaws::put_fits, crate::proofs::PuttingLaws::put_not, crate::proofs::PuttingLaws::text_length, crate::proofs::PuttingLaws::text_end, crate::proofs::PuttingLaws::text_place, crate::proofs::PuttingLaws::text_contents))]
 pub fn put_bytes(buf: &mut [u8], at: usize, bytes: &[u8]) -> usize
     ensures { (result ≡ place_after (length buf.old) at (hex_text bytes.now)) × (buf.new ≡ put_at buf.old at (hex_text bytes.now)) }
 {

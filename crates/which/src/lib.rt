@@ -1,4 +1,6 @@
 // Which one frame of a script mattered: the whole script is read, and one line is printed.
+#![tactic(auto)]
+
 mod printing;
 mod running;
 

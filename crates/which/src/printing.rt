@@ -8,6 +8,7 @@ use text::decimal::put_decimal;
 use text::putting::put_text;
 
 // The number of a line.
+#[tactic(auto, using(crate::proofs::PrintingLaws::number_wrote))]
 fn put_number(out: &mut [u8], number: u64) -> usize
     requires { 32 ≤ length out.old }
     ensures { Wrote out.old 0 (number_text number) result out.new }
@@ -17,6 +18,7 @@ fn put_number(out: &mut [u8], number: u64) -> usize
 }
 
 // Puts what is printed at the output's start; returns its length.
+#[tactic(auto, using(text::proofs::PuttingLaws::put_whole, crate::proofs::PrintingLaws::same_which))]
 pub fn put_which(out: &mut [u8], w: Which) -> usize
     requires { 32 ≤ length out.old }
     ensures { Wrote out.old 0 (which_text w) result out.new }

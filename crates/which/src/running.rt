@@ -4,9 +4,10 @@ ghost use Rattle.removals.specs.Removals.{which_of};
 ghost use Rattle.which.specs.Reading.{room, Tells};
 
 use crate::printing::put_which;
-use console::blocks::{least, write_first};
-use libc::STDIN_FILENO;
+use console::blocks::{least, read_full, write_first};
 use removals::{Which, which_frame};
+use std::io;
+use std::io::{Read, Write};
 
 // Room for the longest script and one byte more, which tells that a script is longer.
 fn no_script() -> [u8; 60001]
@@ -31,6 +32,7 @@ fn answer(script: &[u8], n: usize) -> Which
 }
 
 // Puts what is printed for the input into the output, from the `n` bytes that were read of it; returns its length.
+#[tactic(auto, using(crate::proofs::ReadingLaws::told))]
 fn tell(script: &[u8; 60001], n: usize, out: &mut [u8; 32]) -> usize
     ensures { Tells script.now n out.new result }
 {
@@ -38,19 +40,20 @@ fn tell(script: &[u8; 60001], n: usize, out: &mut [u8; 32]) -> usize
 }
 
 // Reads a script to its end, or until it is too long; returns how many bytes were read.
-fn read_script(script: &mut [u8; 60001]) -> usize {
-    io::read_full(STDIN_FILENO, script)
+fn read_script<R: Read>(input: &mut R, script: &mut [u8; 60001]) -> io::Result<usize> {
+    read_full(input, script)
 }
 
 // Writes the first `n` bytes of the output; returns whether they were written.
-fn write_text(out: &[u8; 32], n: usize) -> bool {
-    write_first(out, n)
+fn write_text<W: Write>(output: &mut W, out: &[u8; 32], n: usize) -> io::Result<bool> {
+    write_first(output, out, n)
 }
 
-pub fn run() {
+pub fn run<R: Read, W: Write>(input: &mut R, output: &mut W) -> io::Result<()> {
     let mut script = no_script();
     let mut out = no_text();
-    let n = read_script(&mut script);
+    let n = read_script(input, &mut script)?;
     let k = tell(&script, n, &mut out);
-    write_text(&out, k);
+    write_text(output, &out, k)?;
+    Ok(())
 }

@@ -1,4 +1,6 @@
 // What is on the line, read: the body between two flags, which is address, stuffed application data and stuffed FCS.
+#![tactic(auto)]
+
 ghost use Rattle.std.specs.Prelude.{◌≡◌, ◌+◌, ◌*◌, ◌≤◌, length, take};
 ghost use Rattle.stuffing.specs.Stuffing.{unstuffed_in};
 ghost use Rattle.wire.specs.Body.{verdict_number, body_answer, reserved_addr, fcs_of, body_in, refused_body, checked_body, unstuffed_body, read_body, answer_to_body};
@@ -7,7 +9,7 @@ use crc::Poly;
 use stuffing::{Count, no_bytes, unstuff_into};
 
 // The answer to a body: it is valid, or one of the numbers 1 to 5.
-#[derive(Drop)]
+#[derive(Clone, Copy)]
 pub enum Verdict {
     Valid,
     Length,
@@ -32,7 +34,7 @@ pub fn verdict_number(verdict: Verdict) -> u8
 }
 
 // What was read of a body: its address, and its application data in the first `len` of `bytes`.
-#[derive(Drop)]
+#[derive(Clone, Copy)]
 pub struct Body {
     pub verdict: Verdict,
     pub addr: u8,
@@ -41,7 +43,7 @@ pub struct Body {
 }
 
 // The same without its bytes, which are in an array that the caller lends.
-#[derive(Drop)]
+#[derive(Clone, Copy)]
 pub struct Found {
     pub verdict: Verdict,
     pub addr: u8,
@@ -60,6 +62,7 @@ fn refused(verdict: Verdict, bytes: &mut [u8; 272]) -> Found
 }
 
 // The addresses that no station may have.
+#[tactic(auto, unfolding(crate::specs::Body::reserved_addr))]
 pub fn reserved(addr: u8) -> bool
     ensures { result ≡ reserved_addr addr }
 {
@@ -72,6 +75,7 @@ pub fn reserved(addr: u8) -> bool
 }
 
 // The FCS of an address and unstuffed data.
+#[tactic(auto, unfolding(crate::specs::Body::fcs_of))]
 pub fn fcs(addr: u8, data: &[u8]) -> u16
     ensures { result ≡ fcs_of addr «data».now }
 {
@@ -94,6 +98,7 @@ fn word(high: u8, low: u8) -> u16
 }
 
 // Numbers 4 and 5. The FCS follows the data it covers, high byte first.
+#[tactic(auto, unfolding(crate::specs::Body::checked_body))]
 fn checked(addr: u8, bytes: &mut [u8; 272], len: usize) -> Found
     requires { (6 ≤ len) × (len ≤ 271) × (length bytes.old ≡ 272) }
     ensures { body_in result bytes.new ≡ checked_body addr bytes.old len }
@@ -114,6 +119,7 @@ fn checked(addr: u8, bytes: &mut [u8; 272], len: usize) -> Found
 }
 
 // Numbers 2 and 3. The 7 to 272 bytes of document 01 include the address and the FCS; `len` leaves out the address.
+#[tactic(auto, unfolding(crate::specs::Body::unstuffed_body))]
 fn unstuffed_body(addr: u8, c: Count, bytes: &mut [u8; 272]) -> Found
     requires { length bytes.old ≡ 272 }
     ensures { body_in result bytes.new ≡ unstuffed_body addr (unstuffed_in c bytes.old) }
@@ -133,6 +139,7 @@ fn unstuffed_body(addr: u8, c: Count, bytes: &mut [u8; 272]) -> Found
 }
 
 // A body as it came from the line, with its bytes in the lent array.
+#[tactic(auto, using(crate::proofs::BodyLaws::held_length, crate::proofs::BodyLaws::body_short, crate::proofs::BodyLaws::body_long))]
 pub fn read_into(body: &[u8], bytes: &mut [u8; 272]) -> Found
     ensures { body_in result bytes.new ≡ read_body body.now }
 {

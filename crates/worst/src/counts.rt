@@ -8,7 +8,7 @@ ghost use Rattle.stretches.specs.Stretches.{most_count};
 use text::decimal::{Decimal, read_decimal};
 
 // The count that a line holds; a line of another form holds none.
-#[derive(Drop)]
+#[derive(Clone, Copy)]
 pub enum Count {
     Refusals(u8),
     None,
@@ -21,6 +21,7 @@ const LONGEST: usize = 3;
 const MOST_COUNT: u32 = 255;
 
 // A count from 1 to 255, or another form.
+#[tactic(auto, using(crate::proofs::CountLaws::number_is))]
 fn count_from_one(chars: &[u8]) -> Count
     ensures { result ≡ count_from (decimal_of most_count chars.now) }
 {
@@ -31,6 +32,7 @@ fn count_from_one(chars: &[u8]) -> Count
 }
 
 // The digit 0 alone.
+#[tactic(auto, using(crate::proofs::CountLaws::zero_other, crate::proofs::CountLaws::zero_one))]
 fn is_zero(chars: &[u8]) -> bool
     ensures { result ≡ is_zero chars.now }
 {
@@ -41,6 +43,7 @@ fn is_zero(chars: &[u8]) -> bool
 }
 
 // The count that some characters are.
+#[tactic(auto, using(crate::proofs::CountLaws::count_long, crate::proofs::CountLaws::count_zero, crate::proofs::CountLaws::count_other))]
 fn count_of(chars: &[u8]) -> Count
     ensures { result ≡ count_of chars.now }
 {
@@ -54,6 +57,7 @@ fn count_of(chars: &[u8]) -> Count
 }
 
 // The count in a line of `len` characters, of which the buffer keeps as many as it has room for.
+#[tactic(auto, using(crate::proofs::CountLaws::in_long, crate::proofs::CountLaws::in_held))]
 pub fn count_in(line: &[u8], len: usize) -> Count
     ensures { result ≡ count_in line.now len }
 {

@@ -7,7 +7,7 @@ use crate::counts::{Count, count_in};
 use stretches::{Tally, counted};
 
 // Whether lines are still counted, or one past the millionth or of another form has ended the work.
-#[derive(Drop)]
+#[derive(Clone, Copy)]
 pub enum Work {
     Counting,
     Long,
@@ -15,7 +15,7 @@ pub enum Work {
 }
 
 // The tally of the lines before one that ends the work, and whether lines are still counted.
-#[derive(Drop)]
+#[derive(Clone, Copy)]
 pub struct Reading {
     pub tally: Tally,
     pub work: Work,
@@ -46,6 +46,7 @@ pub fn is_counting(p: Reading) -> bool
 }
 
 // A line up to the millionth.
+#[tactic(auto, using(crate::proofs::ReadingLaws::line_counted))]
 fn with_line(p: Tally, last: &mut [u8; 1000], line: Count) -> Reading
     ensures { held last.new result ≡ with_line (kept last.old p) line }
 {
@@ -63,6 +64,7 @@ fn with_line(p: Tally, last: &mut [u8; 1000], line: Count) -> Reading
 }
 
 // Reads a line of `len` characters, of which the buffer keeps as many as it has room for. Once the work has ended, nothing changes.
+#[tactic(auto, using(crate::proofs::ReadingLaws::is_counting_lem, crate::proofs::ReadingLaws::read_ended, crate::proofs::ReadingLaws::read_past, crate::proofs::ReadingLaws::read_line_lem))]
 pub fn read_line(p: Reading, last: &mut [u8; 1000], line: &[u8], len: usize) -> Reading
     ensures { held last.new result ≡ read_line (held last.old p) (count_in line.now len) }
 {

@@ -13,6 +13,7 @@ use text::decimal::put_decimal;
 use text::putting::put_text;
 
 // The largest sum, and the first line of the earliest stretch that has it.
+#[tactic(auto, using(crate::proofs::ResultLaws::sum_wrote))]
 fn put_sum(out: &mut [u8], at: usize, p: Tally) -> usize
     requires { at + 64 ≤ length out.old }
     ensures { Wrote out.old at (sum_text (worst_so_far p)) result out.new }
@@ -24,6 +25,7 @@ fn put_sum(out: &mut [u8], at: usize, p: Tally) -> usize
 }
 
 // What is printed if all lines were counts: SHORT, or the two numbers.
+#[tactic(auto, using(crate::proofs::ResultLaws::short_wrote, crate::proofs::ResultLaws::counts_wrote))]
 fn put_counts(out: &mut [u8], at: usize, p: Tally) -> usize
     requires { at + 64 ≤ length out.old }
     ensures { Wrote out.old at (result_text Counting p) result out.new }
@@ -35,6 +37,7 @@ fn put_counts(out: &mut [u8], at: usize, p: Tally) -> usize
 }
 
 // Puts what is printed at index `at` of the output, which has room for it; returns the next index.
+#[tactic(auto, using(crate::proofs::ResultLaws::same_work, crate::proofs::ResultLaws::long_wrote, crate::proofs::ResultLaws::bad_wrote))]
 pub fn put_result(out: &mut [u8], at: usize, p: Reading) -> usize
     requires { at + 64 ≤ length out.old }
     ensures { Wrote out.old at (result_text p.work p.tally) result out.new }

@@ -1,0 +1,10 @@
+-- What was written into the buffer. Assumes nothing.
+use Rattle.std.proofs.Common.{◌≤◌, length, arith}
+use Rattle.cases.proofs.LayingLaws.{laid_says}
+use Rattle.frame_cases.proofs.answering.write_into.Goals as goal
+
+pub returns : goal.returns
+returns c =
+    let w = c.write_frame-laid in
+    let l : length w.new.buf ≤ 600 = omega (arith, w.auto.buf, c.requires) in
+    rw (← w.ensures.0) (laid_says w.result _ _ w.new.buf _ l w.ensures.1 c.laid_answer.ensures)

@@ -1,0 +1,11 @@
+-- The lines so far are answered, and their text was handed on or is in the output. Assumes nothing.
+use Rattle.std.proofs.Common.{◌-◌}
+use Rattle.console.specs.Answering.{Stands}
+use Rattle.framing.specs.Running.{answering}
+use Rattle.framing.proofs.running.answer_all.Given as goal
+
+abbrev pub invariant-loop-count : goal.invariant-loop-count
+invariant-loop-count g l = Stands answering l.count l.block l.out l.c
+
+abbrev pub decreases-loop-count : goal.decreases-loop-count
+decreases-loop-count g l = 0xFFFFFFFFFFFFFFFF - l.count

@@ -1,0 +1,10 @@
+-- The ticks that are left, from here, give the whole. Assumes nothing.
+use Rattle.std.proofs.Common.{◌≡◌, ◌-◌}
+use Rattle.script_lines.specs.Doing.{after_ticks}
+use Rattle.script_lines.proofs.doing.ticks.Given as goal
+
+abbrev pub invariant-loop-i : goal.invariant-loop-i
+invariant-loop-i l = after_ticks (l.n - l.i) l.b ≡ after_ticks l.n l.initial.b
+
+abbrev pub decreases-loop-i : goal.decreases-loop-i
+decreases-loop-i l = l.n - l.i
