@@ -1,5 +1,5 @@
 // The firmware's interface: the firmware owns the agent, and each call alters it in place. Thin functions over the
-// calls by value; include/saturn.h is the header for C. Demand 3, with what 26h and the terminals show, is a clause of each contract:
+// calls by value; `firmware_c` exports them for C. Demand 3, with what 26h and the terminals show, is a clause of each contract:
 // power-up begins a history, and each call continues every history that ended in the agent passed to it.
 #![tactic(auto)]
 

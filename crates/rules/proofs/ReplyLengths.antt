@@ -45,7 +45,7 @@ use Rattle.rules.proofs.ReadFits.{read_fitting}
 use Rattle.rules.proofs.ServedFrames.{reads_frame}
 use Rattle.rules.proofs.ShortReplies.{Short, silent, says, sync_short, read_short}
 
--- ---- what is short
+-- ---- what fits
 
 abbrev Fits : Outcome → Type 0
 Fits o = length o.line ≤ least_room

@@ -32,21 +32,14 @@ list_bytes_lem (x ∷ xs) b =
 
 -- ---- which call the code makes, by the kind
 
-as_tick : (kind port : ℕ) (bytes : List ℕ) (room : ℕ) → kind ≡ 0 → call_of kind port bytes room ≡ tick bytes
+pub as_tick : (kind port : ℕ) (bytes : List ℕ) (room : ℕ) → kind ≡ 0 → call_of kind port bytes room ≡ tick bytes
 as_tick kind port bytes room h = choose_true _ _ (eq-eqb kind 0 h)
 
-as_frame : (kind port : ℕ) (bytes : List ℕ) (room : ℕ) → (kind ≡ 0 → ⊥) → call_of kind port bytes room ≡ frame port bytes room
+pub as_frame : (kind port : ℕ) (bytes : List ℕ) (room : ℕ) → (kind ≡ 0 → ⊥) → call_of kind port bytes room ≡ frame port bytes room
 as_frame kind port bytes room n = choose_false _ _ (ne_eqb kind 0 n)
 
-continues_as : (a : Agent) (z y : Call) (answer : ℕ) (b : Agent) → z ≡ y → Continues a y answer b → Continues a z answer b
+pub continues_as : (a : Agent) (z y : Call) (answer : ℕ) (b : Agent) → z ≡ y → Continues a y answer b → Continues a z answer b
 continues_as a z y answer b e c = subst (λ (w : Call). Continues a w answer b) (sym e) c
-
-module _ (a : Agent) (kind port : ℕ) (bytes : List ℕ) (room answer : ℕ) (b : Agent) where
-  pub tick_continues : kind ≡ 0 → Continues a (tick bytes) answer b → Continues a (call_of kind port bytes room) answer b
-  tick_continues h c = continues_as a _ _ answer b (as_tick kind port bytes room h) c
-
-  pub frame_continues : (kind ≡ 0 → ⊥) → Continues a (frame port bytes room) answer b → Continues a (call_of kind port bytes room) answer b
-  frame_continues h c = continues_as a _ _ answer b (as_frame kind port bytes room h) c
 
 same_call : (x : Call) → call_of (kind_of x) (port_of x) (bytes_in x) (room_of x) ≡ x
 same_call (tick xs) = refl

@@ -8,7 +8,6 @@ use fields::{byte_field, field};
 use rules::Agent;
 
 // Makes the call with these parts: kind 0 is a tick with its inputs, any other a frame.
-#[tactic(auto, using(crate::proofs::CallBytesLaws::tick_continues, crate::proofs::CallBytesLaws::frame_continues))]
 fn call(a: Agent, kind: u8, port: u8, bytes: &[u8], reply: &mut [u8]) -> Told
     ensures { Continues a (call_of kind port bytes.now (length reply.old)) result.answer result.agent }
 {

@@ -1,4 +1,4 @@
--- 19, 20, 21 in this order, then by the verdict that was found. Assumes nothing.
+-- By the verdict that was found. Assumes nothing.
 use Rattle.std.proofs.Common.{rules, ◌≡◌, ◌≤◌, true, length, refl, sym, ◌∙◌, arith}
 use lib.Seq.{length-take-le}
 use Rattle.rules.specs.Replies.{sent}
