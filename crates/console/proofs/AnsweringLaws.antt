@@ -15,7 +15,7 @@ use Rattle.console.specs.Programs.{Program, next_all, says_all, answers, transcr
 use Rattle.console.specs.Cursors.{began, answered, told}
 use Rattle.console.specs.Handing.{Handed}
 use Rattle.console.specs.Reading.{block, rest, last, some, between, Goes, Next}
-use Rattle.console.specs.Answering.{Stands, Answers, Spoken, Whole, Quiet, Left}
+use Rattle.console.specs.Answering.{Stands, Answers, Spoken, Whole, Quiet}
 use Rattle.console.specs.declared.lines.Cursor.{Cursor}
 use Rattle.console.proofs.LinesLaws.{joined_append, lines_line, lines_last, lines_none}
 
@@ -70,7 +70,7 @@ differ : {A : Type 0} → true ≡ false → A
 differ e = absurd (let z : ◌≡◌ {A = ℕ} 0 1 = cc in omega arith)
 
 -- a text put behind what stands
-text_behind : (out : List ℕ) (to : ℕ) (t : List ℕ) → to + length t ≤ length out → take (to + length t) (sets out to t) ≡ take to out ++ t
+pub text_behind : (out : List ℕ) (to : ℕ) (t : List ℕ) → to + length t ≤ length out → take (to + length t) (sets out to t) ≡ take to out ++ t
 text_behind out to t h =
     let l : length (take to out) ≡ to = length-take-le to out (omega arith) in
     ap (take (to + length t)) (sets-eq t out to h)
@@ -78,7 +78,7 @@ text_behind out to t h =
 
 module _ {S : Type 0} (P : Program S) where
   -- ---- before the first line
-  begins : (s : S) (buffer out : List ℕ) (to : ℕ) → s ≡ P.start → take to out ≡ P.first → Stands P s buffer out (began to)
+  unfoldable pub begins : (s : S) (buffer out : List ℕ) (to : ℕ) → s ≡ P.start → take to out ≡ P.first → Stands P s buffer out (began to)
   begins s buffer out to p q = record {
     before = [];
     lines = [];
@@ -203,12 +203,25 @@ module _ {S : Type 0} (P : Program S) where
       let k = n.gives (told_whole r w) in
       line_more s buffer out c buffer' line' r x k.0 k.1 w s' out' to' a
 
+  -- with what next_line handed on behind what was handed on before
+  pub more_handed : (s : S) (buffer out : List ℕ) (c : Cursor) (buffer' line' : List ℕ) (r : Cursor) (s' : S) (out' : List ℕ) (to' : ℕ)
+      (x : Stands P s buffer out c) (n : Next buffer out c buffer' line' r) (w : r.whole ≡ true) (a : Answers P s line' r.len out r.to s' out' to')
+      → (stands_more s buffer out c buffer' line' r s' out' to' x n w a).handed ≡ x.handed ++ (n.gives (told_whole r w)).1.text
+  unfolding stands_more line_more
+  more_handed s buffer out c buffer' line' r s' out' to' x n w a = refl
+
   -- none was, and the input has ended
   pub spoken : (s : S) (buffer out : List ℕ) (c : Cursor) (buffer' line' : List ℕ) (r : Cursor) → Stands P s buffer out c → Next buffer out c buffer' line' r
       → r.whole ≡ false → r.ended ≡ true → Spoken P s buffer' out r
   spoken s buffer out c buffer' line' r x n w e =
       let k = n.gives (told_ended r e) in
       at_last s buffer out c buffer' line' r x k.0 k.1 w e
+
+  pub spoken_handed : (s : S) (buffer out : List ℕ) (c : Cursor) (buffer' line' : List ℕ) (r : Cursor) (x : Stands P s buffer out c)
+      (n : Next buffer out c buffer' line' r) (w : r.whole ≡ false) (e : r.ended ≡ true)
+      → (spoken s buffer out c buffer' line' r x n w e).handed ≡ x.handed ++ (n.gives (told_ended r e)).1.text
+  unfolding spoken at_last
+  spoken_handed s buffer out c buffer' line' r x n w e = refl
 
   -- or the last line was the input's last
   pub stands_spoken : (s : S) (buffer out : List ℕ) (c : Cursor) → Stands P s buffer out c → c.ended ≡ true → Spoken P s buffer out c
@@ -237,7 +250,7 @@ module _ {S : Type 0} (P : Program S) where
         ∙ ap (λ (t : List ℕ). answers P (joined x.before ++ block c buffer) ++ t) (sym e ∙ ap P.ends x.state);
   }
 
-  ends_behind : (s : S) (input handed out : List ℕ) (to : ℕ) (out' : List ℕ) (to' : ℕ) → handed ++ take to out ≡ answers P input
+  pub ends_behind : (s : S) (input handed out : List ℕ) (to : ℕ) (out' : List ℕ) (to' : ℕ) → handed ++ take to out ≡ answers P input
       → s ≡ next_all P P.start (lines_of input) → to + length (P.ends s) ≤ length out → to' ≡ place_after (length out) to (P.ends s)
       → out' ≡ put_at out to (P.ends s) → handed ++ take to' out' ≡ transcript P input
   ends_behind s input handed out to out' to' x y h q r =
@@ -290,7 +303,3 @@ module _ {S : Type 0} (P : Program S) where
       pub stopped : (out' : List ℕ) (to' : ℕ) → c.to + length (P.ends s) ≤ length out → to' ≡ place_after (length out) c.to (P.ends s)
           → out' ≡ put_at out c.to (P.ends s) → x.handed ++ take to' out' ≡ transcript P (joined x.before ++ (block c buffer ++ xs))
       stopped out' to' h p r = ends_behind s input x.handed out c.to out' to' stopped_text stopped_state h p r
-
--- ---- what an error leaves
-pub stands_left : {S : Type 0} (P : Program S) (s : S) (buffer out : List ℕ) (c : Cursor) → Stands P s buffer out c → Left P out
-stands_left P s buffer out c x = record { lines = x.lines; handed = x.handed; to = c.to; text = x.text }

@@ -1,5 +1,9 @@
 pub mod LinesLaws
 pub mod HoldsLaws
+pub mod TakingLaws
 pub mod HandingLaws
+pub mod FillingLaws
 pub mod ReadingLaws
+pub mod WaitingLaws
 pub mod AnsweringLaws
+pub mod SendingLaws

@@ -1,8 +1,11 @@
 -- A program between two lines: what it holds and what it has said, for the blocks that it has read. Assumes nothing.
 use Rattle.std.specs.Prelude.{◌≡◌, true, List, [], ◌++◌, ℕ, ◌≤◌, length, take}
+use Rattle.std.specs.Io.KnownBytes.{Appends}
+use Rattle.std.specs.declared.option.Option.{Option}
 use Rattle.text.specs.Putting.{put_at, place_after}
 use Rattle.console.specs.Lines.{lines_of, joined}
 use Rattle.console.specs.Programs.{Program, next_all, says_all, answers, transcript}
+use Rattle.console.specs.Handing.{HandsFront, AppendsFront}
 use Rattle.console.specs.Reading.{block, rest, Holds}
 use Rattle.console.specs.declared.lines.Cursor.{Cursor}
 
@@ -43,9 +46,18 @@ pub record Quiet {S : Type 0} (P : Program S) (s : S) : Type 0 where
   pub stays : (chars : List ℕ) → P.next s chars ≡ s
   pub silent : (chars : List ℕ) → P.says s chars ≡ []
 
--- what an error of the input or the output leaves: the text of the lines that were answered before it was handed on, or is in the output
-pub record Left {S : Type 0} (P : Program S) (out : List ℕ) : Type 0 where
-  pub lines : List (List ℕ)
-  pub handed : List ℕ
-  pub to : ℕ
-  pub text : handed ++ take to out ≡ P.first ++ says_all P P.start lines
+-- ---- the same, with what the writer took since the start
+-- between two lines: what was handed on is what the writer took
+pub record Sent {S : Type 0} (P : Program S) (a b : Option (List ℕ)) (s : S) (buffer out : List ℕ) (c : Cursor) : Type 0 where
+  pub stands : Stands P s buffer out c
+  pub took : Appends a b stands.handed
+
+-- at the return: the writer took a beginning of what is said to some input, and the text that is still to be written comes next
+pub record Waits (said : List ℕ → List ℕ) (a b : Option (List ℕ)) (text : List ℕ) : Type 0 where
+  pub input : List ℕ
+  pub next : HandsFront a b (said input) text
+
+-- WHAT AN ERROR LEAVES: the writer took a beginning of what is said to some input, that of the blocks which were read
+pub record Begun (said : List ℕ → List ℕ) (a b : Option (List ℕ)) : Type 0 where
+  pub input : List ℕ
+  pub took : AppendsFront a b (said input)

@@ -1,5 +1,6 @@
 // The lines of standard input, one after another, wherever the input is cut into blocks.
-ghost use Rattle.std.specs.Prelude.{◌≡◌, length, IfOk};
+ghost use Rattle.std.specs.Prelude.{◌≡◌, true, false, length, take, IfOk, OnErr};
+ghost use Rattle.std.specs.Io.KnownBytes.{Keeps, Appends};
 ghost use Rattle.std.proofs.lemmas.List.Edits.{sets};
 ghost use Rattle.text.specs.Lines.{line_end_of, before_end};
 ghost use Rattle.console.specs.Cursors.{began, told};
@@ -7,6 +8,7 @@ ghost use Rattle.console.specs.Cursors.{part as Cursors·part};
 ghost use Rattle.console.specs.Cursors.{placed as Cursors·placed};
 ghost use Rattle.console.specs.Cursors.{stopped as Cursors·stopped};
 ghost use Rattle.console.specs.Cursors.{filled as Cursors·filled};
+ghost use Rattle.console.specs.Handing.{HandsOn, HandsFront, AppendsFront};
 ghost use Rattle.console.specs.Reading.{rest, block as Reading·block, Filled, Next};
 
 use crate::blocks;
@@ -87,7 +89,8 @@ fn filled(c: Cursor, n: usize) -> Cursor
 
 // Reads another block.
 fn fill<R: Read>(input: &mut R, block: &mut [u8; 65536], c: Cursor) -> io::Result<Cursor>
-    ensures { IfOk result (λ r. Filled c r) }
+    ensures ok { IfOk result (λ r. Filled c r) }
+    ensures err { OnErr result (Keeps (R.remaining input.old) (R.remaining input.new)) }
 {
     let n = blocks::read_block(input, block)?;
     Ok(filled(c, n))
@@ -134,8 +137,8 @@ fn done(c: Cursor) -> bool
 
 // Reads the next line into its buffer, as far as there is room for it, and makes room for its text in the output; or
 // there is no line, and the input has ended; or neither, if the output is closed. Before it waits for more input, the
-// text so far is handed on. A proved loop has to end, and nothing says that the input does: so the loop counts down
-// from a number that no run uses up.
+// text so far is handed on; an error of the input or the output leaves a beginning of it handed on. A proved loop has to
+// end, and nothing says that the input does: so it has a number of turns that no run uses up.
 #[tactic(auto, using(crate::proofs::ReadingLaws::goes_first, crate::proofs::ReadingLaws::first_room, crate::proofs::ReadingLaws::next_stopped))]
 pub fn next_line<R: Read, W: Write>(
     input: &mut R,
@@ -145,7 +148,10 @@ pub fn next_line<R: Read, W: Write>(
     out: &[u8; 16384],
     c: Cursor,
 ) -> io::Result<Cursor>
-    ensures { IfOk result (λ r. Next block.old out.now c block.new line.new r) }
+    ensures ok { IfOk result (λ r. Next block.old out.now c block.new line.new r) }
+    ensures handed { IfOk result (λ r. told r ≡ true → HandsOn (W.contents output.old) (W.contents output.new) (take c.to out.now) (take r.to out.now)) }
+    ensures front { IfOk result (λ r. HandsFront (W.contents output.old) (W.contents output.new) (take c.to out.now) (take r.to out.now)) }
+    ensures err { OnErr result (AppendsFront (W.contents output.old) (W.contents output.new) (take c.to out.now)) }
 {
     let Place::At(to) = blocks::make_room(output, out, c.to)? else {
         return Ok(stopped(c));
@@ -168,6 +174,10 @@ pub fn next_line<R: Read, W: Write>(
 }
 
 // Writes the text that is still in the output; returns whether it was written.
-pub fn close<W: Write>(output: &mut W, out: &[u8; 16384], c: Cursor) -> io::Result<bool> {
+pub fn close<W: Write>(output: &mut W, out: &[u8; 16384], c: Cursor) -> io::Result<bool>
+    ensures all { IfOk result (λ written. written ≡ true → Appends (W.contents output.old) (W.contents output.new) (take c.to out.now)) }
+    ensures none { IfOk result (λ written. written ≡ false → Keeps (W.contents output.old) (W.contents output.new)) }
+    ensures err { OnErr result (AppendsFront (W.contents output.old) (W.contents output.new) (take c.to out.now)) }
+{
     blocks::write_first(output, out, c.to)
 }
