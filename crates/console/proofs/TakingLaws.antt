@@ -1,5 +1,6 @@
 -- Laws of what a writer took: nothing, more of it, a beginning of it. Assumes nothing.
-use mathlib.Core.Path.{refl, sym, ap, ◌∙◌}
+use mathlib.Core.Path.{◌≡◌, refl, sym, ap, ◌∙◌}
+use mathlib.Core.Bool.{Bool, true, false}
 use mathlib.Core.List.{List, [], ◌++◌, append_assoc, append-nil}
 use Prim.Native.Nat.{ℕ, ◌-◌}
 use native.Mathlib.Omega.{arith}
@@ -93,6 +94,12 @@ module _ (a b : Option (List ℕ)) (page page' : List ℕ) (h : HandsOn a b page
 -- ---- a beginning of a text
 pub front_none : (a b : Option (List ℕ)) (text : List ℕ) → Keeps a b → AppendsFront a b text
 front_none a b text k = hands_front a b text text (hands_kept a b text k)
+
+-- a text of which it is told whether it was written
+pub front_told : (a b : Option (List ℕ)) (text : List ℕ) (written : Bool) → (written ≡ true → Appends a b text) → (written ≡ false → Keeps a b)
+    → AppendsFront a b text
+front_told a b text true t k = hands_front a b text [] (hands_all a b text (t refl))
+front_told a b text false t k = front_none a b text (k refl)
 
 -- is one of any text that goes on from it
 pub front_longer : (a b : Option (List ℕ)) (s t : List ℕ) → AppendsFront a b s → AppendsFront a b (s ++ t)

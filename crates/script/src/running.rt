@@ -1,6 +1,7 @@
 // A script from standard input, line by line, and its text to standard output.
-ghost use Rattle.std.specs.Prelude.{◌≡◌, true, IfOk, OnErr};
-ghost use Rattle.console.specs.Answering.{Whole, Left};
+ghost use Rattle.std.specs.Prelude.{◌≡◌, true, take, IfOk, OnErr};
+ghost use Rattle.console.specs.Answering.{Whole, Waits, Begun};
+ghost use Rattle.console.specs.Programs.{answers};
 ghost use Rattle.script.specs.Playing.{scripted};
 
 use crate::playing;
@@ -12,8 +13,7 @@ use std::io;
 use std::io::{Read, Write};
 
 // The header, and the text of every line. It is handed on when the output is full; its end is still in the output on return.
-// An error of the input or the output ends the work; the last text may then be in the output, and the cursor is gone.
-#[tactic(auto, using(console::proofs::AnsweringLaws::stands_left))]
+// An error of the input or the output ends the work, with a beginning of the text handed on.
 fn play_all<R: Read, W: Write>(
     input: &mut R,
     output: &mut W,
@@ -23,7 +23,8 @@ fn play_all<R: Read, W: Write>(
     out: &mut [u8; 16384],
 ) -> io::Result<Cursor>
     ensures ok { IfOk result (λ c. c.ended ≡ true → Whole (scripted view) block.new out.new c) }
-    ensures err { OnErr result (Left (scripted view) out.new) }
+    ensures waits { IfOk result (λ c. Waits (answers (scripted view)) (W.contents output.old) (W.contents output.new) (take c.to out.new)) }
+    ensures err { OnErr result (Begun (answers (scripted view)) (W.contents output.old) (W.contents output.new)) }
 {
     let mut p = playing::start();
     let to = script_text::put_header(out, 0, view);
@@ -40,7 +41,10 @@ fn play_all<R: Read, W: Write>(
     Ok(c)
 }
 
-pub fn run<R: Read, W: Write>(input: &mut R, output: &mut W, view: View) -> io::Result<()> {
+// Whatever it returns, the writer took a beginning of the text.
+pub fn run<R: Read, W: Write>(input: &mut R, output: &mut W, view: View) -> io::Result<()>
+    ensures { Begun (answers (scripted view)) (W.contents output.old) (W.contents output.new) }
+{
     let mut block = blocks::no_input();
     let mut line = text::lines::no_line();
     let mut out = blocks::no_output();
