@@ -1,6 +1,7 @@
 // Standard input, line by line, to standard output.
-ghost use Rattle.std.specs.Prelude.{◌≡◌, true, IfOk, OnErr};
-ghost use Rattle.console.specs.Answering.{Whole, Left};
+ghost use Rattle.std.specs.Prelude.{◌≡◌, true, take, IfOk, OnErr};
+ghost use Rattle.console.specs.Answering.{Whole, Waits, Begun};
+ghost use Rattle.console.specs.Programs.{answers};
 ghost use Rattle.cases.specs.Cases.{answering};
 ghost use Rattle.frame_cases.specs.Answers.{frame_answers};
 
@@ -12,8 +13,7 @@ use std::io;
 use std::io::{Read, Write};
 
 // The answers to all lines. They are handed on when the output is full; the last of them are still in the output on return.
-// An error of the input or the output ends the work; the last answers may then be in the output, and the cursor is gone.
-#[tactic(auto, using(console::proofs::AnsweringLaws::stands_left))]
+// An error of the input or the output ends the work, with a beginning of the answers handed on.
 fn answer_all<R: Read, W: Write>(
     input: &mut R,
     output: &mut W,
@@ -22,7 +22,8 @@ fn answer_all<R: Read, W: Write>(
     out: &mut [u8; 16384],
 ) -> io::Result<Cursor>
     ensures ok { IfOk result (λ c. c.ended ≡ true → Whole (answering frame_answers) block.new out.new c) }
-    ensures err { OnErr result (Left (answering frame_answers) out.new) }
+    ensures waits { IfOk result (λ c. Waits (answers (answering frame_answers)) (W.contents output.old) (W.contents output.new) (take c.to out.new)) }
+    ensures err { OnErr result (Begun (answers (answering frame_answers)) (W.contents output.old) (W.contents output.new)) }
 {
     let mut c = lines::begin(0);
     for _ in 0..u64::MAX {
@@ -35,7 +36,10 @@ fn answer_all<R: Read, W: Write>(
     Ok(c)
 }
 
-pub fn run<R: Read, W: Write>(input: &mut R, output: &mut W) -> io::Result<()> {
+// Whatever it returns, the writer took a beginning of the answers.
+pub fn run<R: Read, W: Write>(input: &mut R, output: &mut W) -> io::Result<()>
+    ensures { Begun (answers (answering frame_answers)) (W.contents output.old) (W.contents output.new) }
+{
     let mut block = blocks::no_input();
     let mut line = text::lines::no_line();
     let mut out = blocks::no_output();
