@@ -52,12 +52,12 @@ pub record Sent {S : Type 0} (P : Program S) (a b : Option (List ℕ)) (s : S) (
   pub stands : Stands P s buffer out c
   pub took : Appends a b stands.handed
 
--- at the return: the writer took a beginning of what is said to some input, and the text that is still to be written comes next
+-- at a return: the writer took a beginning of what is said to some input, and the text that is still in the output comes next
 pub record Waits (said : List ℕ → List ℕ) (a b : Option (List ℕ)) (text : List ℕ) : Type 0 where
   pub input : List ℕ
   pub next : HandsFront a b (said input) text
 
--- WHAT AN ERROR LEAVES: the writer took a beginning of what is said to some input, that of the blocks which were read
+-- WHAT AN ERROR LEAVES: the writer took a beginning of what is said to some input, and no other byte
 pub record Begun (said : List ℕ → List ℕ) (a b : Option (List ℕ)) : Type 0 where
   pub input : List ℕ
   pub took : AppendsFront a b (said input)
