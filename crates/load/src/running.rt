@@ -1,7 +1,8 @@
 // A script from standard input, line by line, and its line load to standard output.
-ghost use Rattle.std.specs.Prelude.{◌≡◌, true, IfOk, OnErr};
-ghost use Rattle.console.specs.Answering.{Left};
+ghost use Rattle.std.specs.Prelude.{◌≡◌, true, take, IfOk, OnErr};
+ghost use Rattle.console.specs.Answering.{Waits, Begun};
 ghost use Rattle.console.specs.Cursors.{told};
+ghost use Rattle.console.specs.Programs.{answers, transcript};
 ghost use Rattle.load.specs.Loading.{Loads, loading};
 
 use crate::cycles;
@@ -13,9 +14,8 @@ use std::io;
 use std::io::{Read, Write};
 
 // The line of every cycle, up to the millionth line of the script. They are handed on when the output is full; the last of them are
-// still in the output on return. An error of the input or the output ends the work; the last lines may then be in the output, and
-// the cursor is gone.
-#[tactic(auto, using(console::proofs::AnsweringLaws::stands_left))]
+// still in the output on return. An error of the input or the output ends the work; what was written is a beginning of what is
+// printed.
 fn load_all<R: Read, W: Write>(
     input: &mut R,
     output: &mut W,
@@ -24,7 +24,8 @@ fn load_all<R: Read, W: Write>(
     out: &mut [u8; 16384],
 ) -> io::Result<Cursor>
     ensures ok { IfOk result (λ c. told c ≡ true → Loads block.new out.new c) }
-    ensures err { OnErr result (Left loading out.new) }
+    ensures waits { IfOk result (λ c. Waits (transcript loading) (W.contents output.old) (W.contents output.new) (take c.to out.new)) }
+    ensures err { OnErr result (Begun (answers loading) (W.contents output.old) (W.contents output.new)) }
 {
     let mut p = cycles::start();
     let mut c = lines::begin(0);
@@ -47,7 +48,11 @@ fn load_all<R: Read, W: Write>(
     Ok(c)
 }
 
-pub fn run<R: Read, W: Write>(input: &mut R, output: &mut W) -> io::Result<()> {
+// The same, and the lines that are still in the output are written. Whatever it returns, what was written is a beginning of what is
+// printed.
+pub fn run<R: Read, W: Write>(input: &mut R, output: &mut W) -> io::Result<()>
+    ensures { Begun (transcript loading) (W.contents output.old) (W.contents output.new) }
+{
     let mut block = blocks::no_input();
     let mut line = text::lines::no_line();
     let mut out = blocks::no_output();
