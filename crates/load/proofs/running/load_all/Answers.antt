@@ -15,7 +15,7 @@ loop-p-init g c = record {
 }
 
 pub returns-in_err-c-clause-err : goal.returns-in_err-c-clause-err
-returns-in_err-c-clause-err g c = at_error c.from_residual.result (begun_so loading _ _ _ _ _ _ c.loop-p.invariant.sent _ c.in_err-c.ensures.err)
+returns-in_err-c-clause-err g c = at_error _ (begun_so loading _ _ _ _ _ _ c.loop-p.invariant.sent _ c.in_err-c.ensures.err)
 
 pub loop-p-smaller : goal.loop-p-smaller
 loop-p-smaller g c = fewer_left _ _ _ c.loop-p-test.true c.load_line-loaded.ensures.1
