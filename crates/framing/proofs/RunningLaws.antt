@@ -1,15 +1,19 @@
--- Laws of a line's answer, as the program puts it together and as the definition has it; and of the text at the end.
--- Assumes nothing.
+-- Laws of a line's answer, as the program puts it together and as the definition has it; and of the text at the end, and
+-- of what is then still to be written. Assumes nothing.
 use Rattle.std.proofs.Common.{◌≡◌, ℕ, ◌-◌, ◌<◌, ◌≤◌, Bool, true, false, eqb, ltb, List, [], length, take, sym, refl, ap, ◌∙◌, ap₂, arith, length-take, ltb-false, ltb-true, le-ltb, lt-ltb, ne_eqb}
+use Rattle.std.specs.declared.option.Option.{Option}
 use Rattle.base.specs.Choice.{choose}
 use Rattle.base.proofs.Choosing.{choose_true, choose_false}
 use Rattle.text.specs.Decimal.{decimal_text}
 use Rattle.text.specs.Putting.{put_at, place_after}
 use Rattle.console.specs.Reading.{Holds, Next}
-use Rattle.console.specs.Answering.{Stands, Answers, Whole}
-use Rattle.console.specs.Cursors.{answered as moved}
+use Rattle.console.specs.Answering.{Stands, Answers, Whole, Sent, Waits}
+use Rattle.console.specs.Cursors.{answered as moved, told}
+use Rattle.console.specs.Handing.{HandsOn}
+use Rattle.console.specs.Programs.{transcript}
 use Rattle.console.specs.declared.lines.Cursor.{Cursor}
 use Rattle.console.proofs.AnsweringLaws.{told_ended, room_made, spoken, whole_more}
+use Rattle.console.proofs.SendingLaws.{waits_ends}
 use Rattle.console.proofs.HoldsLaws.{holds_short, holds_long}
 use Rattle.frame_words.specs.Texts.{room, no_text, put, text_in}
 use Rattle.frame_words.specs.declared.texts.Text.{Text}
@@ -68,9 +72,16 @@ end_put n buffer out c buffer' line' r t out' to' x g w e q a =
     let m : length (text_in (end_text n)) ≤ room = rw q at a.0 in
     whole_more answering n buffer' out r out' to' (spoken answering n buffer out c buffer' line' r x g w e) (omega (arith, h, m)) (rw q at a.1) (rw q at a.2)
 
--- an input that has not ended
-pub not_both : {A : Type 0} (b : Bool) → b ≡ true → b ≡ false → A
-not_both b e f = absurd (let z : ◌≡◌ {A = ℕ} 0 1 = cc in omega arith)
+-- what is still to be written then comes next in what is printed
+pub end_waits : (n : ℕ) (a b : Option (List ℕ)) (buffer out : List ℕ) (c : Cursor) (x : Sent answering a b n buffer out c) (buffer' line' : List ℕ) (r : Cursor)
+    (b' : Option (List ℕ)) → Next buffer out c buffer' line' r → (told r ≡ true → HandsOn b b' (take c.to out) (take r.to out)) → r.whole ≡ false → r.ended ≡ true
+    → (t : Text) (out' : List ℕ) (to' : ℕ) → t ≡ end_text n
+    → (length (text_in t) ≤ room) × (to' ≡ place_after (length out) r.to (text_in t)) × (out' ≡ put_at out r.to (text_in t))
+    → Waits (transcript answering) a b' (take to' out')
+end_waits n a b buffer out c x buffer' line' r b' g h w e t out' to' q m =
+    let k = room_made buffer out c buffer' line' r g (told_ended r e) in
+    let l : length (text_in (end_text n)) ≤ room = rw q at m.0 in
+    waits_ends answering a b n buffer out c x buffer' line' r b' g h w e out' to' (omega (arith, k, l)) (rw q at m.1) (rw q at m.2)
 
 -- after each line there is one fewer that can be counted
 pub fewer_left : (n m : ℕ) → n < 0xFFFFFFFFFFFFFFFF → m ≡ number_of n → 0xFFFFFFFFFFFFFFFF - m < 0xFFFFFFFFFFFFFFFF - n

@@ -3,7 +3,8 @@ ghost use Rattle.std.specs.Prelude.{◌≡◌, ◌≤◌, true, length, take, na
 ghost use Rattle.base.specs.Choice.{choose};
 ghost use Rattle.text.specs.Putting.{put_at, place_after};
 ghost use Rattle.frame_words.specs.Texts.{room, text_in};
-ghost use Rattle.console.specs.Answering.{Whole, Left};
+ghost use Rattle.console.specs.Answering.{Whole, Waits, Begun};
+ghost use Rattle.console.specs.Programs.{answers, transcript};
 ghost use Rattle.framing.specs.Answers.{answer_of, over_text};
 ghost use Rattle.framing.specs.Running.{number_of, answered_in, end_text};
 ghost use Rattle.framing.specs.Running.{answering as Running·answering};
@@ -64,8 +65,7 @@ fn put(t: Text, out: &mut [u8], at: usize) -> usize
 
 // The answers to all lines, and the text at the end. They are handed on when the output is full; the last of them are
 // still in the output on return. No run has as many lines as the count can hold. An error of the input or the output
-// ends the work; the answers before it were handed on, or are in the output.
-#[tactic(auto, using(console::proofs::AnsweringLaws::stands_left))]
+// ends the work; what was written is a beginning of what is printed.
 fn answer_all<R: Read, W: Write>(
     input: &mut R,
     output: &mut W,
@@ -74,7 +74,8 @@ fn answer_all<R: Read, W: Write>(
     out: &mut [u8; 16384],
 ) -> io::Result<Cursor>
     ensures ok { IfOk result (λ c. c.ended ≡ true → Whole Running·answering block.new out.new c) }
-    ensures err { OnErr result (Left Running·answering out.new) }
+    ensures waits { IfOk result (λ c. Waits (transcript Running·answering) (W.contents output.old) (W.contents output.new) (take c.to out.new)) }
+    ensures err { OnErr result (Begun (answers Running·answering) (W.contents output.old) (W.contents output.new)) }
 {
     let mut count: u64 = 0;
     let mut c = lines::begin(0);
@@ -93,7 +94,11 @@ fn answer_all<R: Read, W: Write>(
     Ok(c)
 }
 
-pub fn run<R: Read, W: Write>(input: &mut R, output: &mut W) -> io::Result<()> {
+// The same, and the answers that are still in the output are written. Whatever it returns, what was written is a
+// beginning of what is printed.
+pub fn run<R: Read, W: Write>(input: &mut R, output: &mut W) -> io::Result<()>
+    ensures { Begun (transcript Running·answering) (W.contents output.old) (W.contents output.new) }
+{
     let mut block = blocks::no_input();
     let mut line = text::lines::no_line();
     let mut out = blocks::no_output();
