@@ -4,3 +4,4 @@ pub mod ReadingLaws
 pub mod ResultLaws
 pub mod Whole
 pub mod RunningLaws
+pub mod SendingLaws

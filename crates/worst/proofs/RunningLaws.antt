@@ -71,7 +71,7 @@ fewer_left h count h' w q = by (leb most_lines h.kept.tally.lines) refl (ap (λ 
 
 -- ---- what is printed at the end
 -- nothing was handed on before, and nothing is in the output
-none_before : (xs ys : List ℕ) → xs ++ ys ≡ [] → (xs ≡ []) × (ys ≡ [])
+pub none_before : (xs ys : List ℕ) → xs ++ ys ≡ [] → (xs ≡ []) × (ys ≡ [])
 none_before [] ys e = (refl, e)
 none_before (x ∷ xs) ys e = absurd (let z : ◌≡◌ {A = ℕ} 0 1 = cc in omega arith)
 

@@ -1,5 +1,7 @@
--- A journey line by line: the counts so far, and whether a line has ended the work. Assumes nothing.
-use Rattle.std.specs.Prelude.{Bool, true, false, List, [], ◌++◌, ◌≡◌, ℕ, ◌+◌, leb, ltb, length, take}
+-- A journey line by line: the counts so far, whether a line has ended the work, and what the writer takes. Assumes nothing.
+use Rattle.std.specs.Prelude.{Bool, true, false, List, [], ◌++◌, ◌≡◌, ◌⊎◌, ℕ, ◌+◌, leb, ltb, length, take}
+use Rattle.std.specs.Io.KnownBytes.{Keeps, Appends}
+use Rattle.std.specs.declared.option.Option.{Option}
 use Rattle.base.specs.Choice.{choose}
 use Rattle.console.specs.Lines.{lines_of, joined}
 use Rattle.console.specs.Programs.{Program}
@@ -73,3 +75,18 @@ reading = record {
 pub record Tells (buffer out : List ℕ) (c : Cursor) : Type 0 where
   pub before : List (List ℕ)
   pub text : (xs : List ℕ) → (c.ended ≡ true → xs ≡ []) → take c.to out ≡ worst_text (lines_of (joined before ++ (block c buffer ++ xs)))
+
+-- ---- what the writer takes
+-- what is printed for a journey, from its bytes
+abbrev pub journey_text : List ℕ → List ℕ
+journey_text input = worst_text (lines_of input)
+
+-- what is in the output before it is written: what is printed for some input; or nothing, if reading was given up before the end
+pub record Ready (text : List ℕ) : Type 0 where
+  pub input : List ℕ
+  pub is : (text ≡ journey_text input) ⊎ (text ≡ [])
+
+-- what the writer took, if there was no error: what is printed for some input, all of it; or nothing, if reading was given up
+pub record Printed (old new : Option (List ℕ)) : Type 0 where
+  pub input : List ℕ
+  pub took : Appends old new (journey_text input) ⊎ Keeps old new

@@ -1,7 +1,9 @@
 // A journey from standard input, line by line, and its worst 1,000 cycles to standard output.
-ghost use Rattle.std.specs.Prelude.{◌≡◌, true, IfOk, OnErr};
+ghost use Rattle.std.specs.Prelude.{◌≡◌, true, take, IfOk, OnOk, OnErr};
+ghost use Rattle.std.specs.Io.KnownBytes.{Keeps};
 ghost use Rattle.console.specs.Cursors.{told};
-ghost use Rattle.worst.specs.Reading.{Tells};
+ghost use Rattle.console.specs.Answering.{Begun};
+ghost use Rattle.worst.specs.Reading.{Tells, Ready, Printed, journey_text};
 
 use crate::reading;
 use crate::reading::{is_counting, read_line};
@@ -11,8 +13,8 @@ use console::{blocks, lines};
 use std::io;
 use std::io::{Read, Write};
 
-// Reads lines until one ends the work or the input ends, and puts what is printed into the output. An error of the input or the
-// output ends the work too, and leaves what was in the output.
+// Reads lines until one ends the work or the input ends, and puts what is printed into the output. Nothing is handed on. An error of
+// the input or the output ends the work too, and leaves what was in the output.
 fn read_all<R: Read, W: Write>(
     input: &mut R,
     output: &mut W,
@@ -21,6 +23,8 @@ fn read_all<R: Read, W: Write>(
     out: &mut [u8; 16384],
 ) -> io::Result<Cursor>
     ensures ok { IfOk result (λ c. told c ≡ true → Tells block.new out.new c) }
+    ensures text { IfOk result (λ c. Ready (take c.to out.new)) }
+    ensures kept { Keeps (W.contents output.old) (W.contents output.new) }
     ensures err { OnErr result (out.new ≡ out.old) }
 {
     let mut last = stretches::no_counts();
@@ -41,7 +45,12 @@ fn read_all<R: Read, W: Write>(
     Ok(c)
 }
 
-pub fn run<R: Read, W: Write>(input: &mut R, output: &mut W) -> io::Result<()> {
+// An error of the input or the output ends the work; of what is printed a beginning may then be written, and nothing else.
+#[tactic(auto, using(crate::proofs::SendingLaws::text_begun))]
+pub fn run<R: Read, W: Write>(input: &mut R, output: &mut W) -> io::Result<()>
+    ensures ok { OnOk result (Printed (W.contents output.old) (W.contents output.new)) }
+    ensures err { OnErr result (Begun journey_text (W.contents output.old) (W.contents output.new)) }
+{
     let mut block = blocks::no_input();
     let mut line = text::lines::no_line();
     let mut out = blocks::no_output();
