@@ -1,2 +1,3 @@
 pub mod PrintingLaws
 pub mod ReadingLaws
+pub mod WritingLaws

@@ -1,5 +1,8 @@
--- A script read into a buffer that has room for one byte more than the longest. Assumes nothing.
-use Rattle.std.specs.Prelude.{◌≡◌, List, [], ◌++◌, ℕ, ◌+◌, ◌<◌, take}
+-- A script read into a buffer that has room for one byte more than the longest, and what the writer takes. Assumes nothing.
+use Rattle.std.specs.Prelude.{◌≡◌, ◌⊎◌, List, [], ◌++◌, ℕ, ◌+◌, ◌<◌, take, Some}
+use Rattle.std.specs.Io.KnownBytes.{Keeps, Appends}
+use Rattle.std.specs.declared.option.Option.{Option}
+use Rattle.console.specs.Handing.{AppendsFront}
 use Rattle.removals.specs.Removals.{most_bytes}
 use Rattle.which.specs.Printing.{printed}
 
@@ -15,3 +18,16 @@ pub record Reads (script : List ℕ) (n : ℕ) (input : List ℕ) : Type 0 where
 -- THE PROMISE: for any input of which that was read, what is in the output is what is printed for it
 abbrev pub Tells : List ℕ → ℕ → List ℕ → ℕ → Type 0
 Tells script n out to = (input : List ℕ) → Reads script n input → take to out ≡ printed input
+
+-- ---- what the writer takes, for an input: that of the reader, where its bytes are known
+-- all that is printed, or nothing, should it not be in the output
+pub record Printed (known old new : Option (List ℕ)) : Type 0 where
+  pub input : List ℕ
+  pub is : (all : List ℕ) → known ≡ Some all → input ≡ all
+  pub took : Appends old new (printed input) ⊎ Keeps old new
+
+-- WHAT AN ERROR LEAVES: a beginning of what is printed
+pub record PrintedFront (known old new : Option (List ℕ)) : Type 0 where
+  pub input : List ℕ
+  pub is : (all : List ℕ) → known ≡ Some all → input ≡ all
+  pub took : AppendsFront old new (printed input)

@@ -1,7 +1,11 @@
 // A script from standard input, and which one frame of it mattered to standard output.
-ghost use Rattle.std.specs.Prelude.{◌≡◌, take, replicate};
+ghost use Rattle.std.specs.Prelude.{◌≡◌, true, false, take, replicate, IfOk, OnOk, OnErr};
+ghost use Rattle.std.specs.Io.{ReadsAtMost};
+ghost use Rattle.std.specs.Io.KnownBytes.{Keeps, Appends};
+ghost use Rattle.console.specs.Blocks.{FullRead, LostRead};
+ghost use Rattle.console.specs.Handing.{AppendsFront};
 ghost use Rattle.removals.specs.Removals.{which_of};
-ghost use Rattle.which.specs.Reading.{room, Tells};
+ghost use Rattle.which.specs.Reading.{room, Tells, Printed, PrintedFront};
 
 use crate::printing::put_which;
 use console::blocks::{least, read_full, write_first};
@@ -40,16 +44,29 @@ fn tell(script: &[u8; 60001], n: usize, out: &mut [u8; 32]) -> usize
 }
 
 // Reads a script to its end, or until it is too long; returns how many bytes were read.
-fn read_script<R: Read>(input: &mut R, script: &mut [u8; 60001]) -> io::Result<usize> {
+fn read_script<R: Read>(input: &mut R, script: &mut [u8; 60001]) -> io::Result<usize>
+    ensures bound { ReadsAtMost result script.new }
+    ensures ok { IfOk result (λ n. FullRead (R.remaining input.old) (R.remaining input.new) script.new n) }
+    ensures err { OnErr result (LostRead (R.remaining input.old) (R.remaining input.new) script.new) }
+{
     read_full(input, script)
 }
 
 // Writes the first `n` bytes of the output; returns whether they were written.
-fn write_text<W: Write>(output: &mut W, out: &[u8; 32], n: usize) -> io::Result<bool> {
+fn write_text<W: Write>(output: &mut W, out: &[u8; 32], n: usize) -> io::Result<bool>
+    ensures all { IfOk result (λ written. written ≡ true → Appends (W.contents output.old) (W.contents output.new) (take n out.now)) }
+    ensures none { IfOk result (λ written. written ≡ false → Keeps (W.contents output.old) (W.contents output.new)) }
+    ensures err { OnErr result (AppendsFront (W.contents output.old) (W.contents output.new) (take n out.now)) }
+{
     write_first(output, out, n)
 }
 
-pub fn run<R: Read, W: Write>(input: &mut R, output: &mut W) -> io::Result<()> {
+// An error of the input or the output ends the work; of what is printed a beginning may then be written, and nothing else.
+#[tactic(auto, using(crate::proofs::WritingLaws::read_lost, crate::proofs::WritingLaws::text_begun))]
+pub fn run<R: Read, W: Write>(input: &mut R, output: &mut W) -> io::Result<()>
+    ensures ok { OnOk result (Printed (R.remaining input.old) (W.contents output.old) (W.contents output.new)) }
+    ensures err { OnErr result (PrintedFront (R.remaining input.old) (W.contents output.old) (W.contents output.new)) }
+{
     let mut script = no_script();
     let mut out = no_text();
     let n = read_script(input, &mut script)?;
