@@ -65,7 +65,7 @@ fn put(t: Text, out: &mut [u8], at: usize) -> usize
 
 // The answers to all lines, and the text at the end. They are handed on when the output is full; the last of them are
 // still in the output on return. No run has as many lines as the count can hold. An error of the input or the output
-// ends the work; what was written is a beginning of what is printed.
+// ends the work; what was written is a beginning of what is printed for some input.
 fn answer_all<R: Read, W: Write>(
     input: &mut R,
     output: &mut W,
@@ -95,7 +95,7 @@ fn answer_all<R: Read, W: Write>(
 }
 
 // The same, and the answers that are still in the output are written. Whatever it returns, what was written is a
-// beginning of what is printed.
+// beginning of what is printed for some input.
 pub fn run<R: Read, W: Write>(input: &mut R, output: &mut W) -> io::Result<()>
     ensures { Begun (transcript Running·answering) (W.contents output.old) (W.contents output.new) }
 {

@@ -15,7 +15,7 @@ use std::io::{Read, Write};
 
 // The line of every cycle, up to the millionth line of the script. They are handed on when the output is full; the last of them are
 // still in the output on return. An error of the input or the output ends the work; what was written is a beginning of what is
-// printed.
+// printed for some input.
 fn load_all<R: Read, W: Write>(
     input: &mut R,
     output: &mut W,
@@ -49,7 +49,7 @@ fn load_all<R: Read, W: Write>(
 }
 
 // The same, and the lines that are still in the output are written. Whatever it returns, what was written is a beginning of what is
-// printed.
+// printed for some input.
 pub fn run<R: Read, W: Write>(input: &mut R, output: &mut W) -> io::Result<()>
     ensures { Begun (transcript loading) (W.contents output.old) (W.contents output.new) }
 {
