@@ -128,7 +128,7 @@ pub fn put_first(out: &mut [u8], at: usize, text: &[u8], n: usize) -> usize
     put_text(out, at, &text[..k])
 }
 
-// Where the next text goes, or that the output is closed.
+// Where the next text goes, or that there is no room for it.
 #[derive(Clone, Copy)]
 pub enum Place {
     At(usize),

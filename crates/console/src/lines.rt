@@ -136,7 +136,7 @@ fn done(c: Cursor) -> bool
 }
 
 // Reads the next line into its buffer, as far as there is room for it, and makes room for its text in the output; or
-// there is no line, and the input has ended; or neither, if the output is closed. Before it waits for more input, the
+// there is no line, and the input has ended; or neither, if reading is given up. Before it waits for more input, the
 // text so far is handed on; an error of the input or the output leaves a beginning of it handed on. A proved loop has to
 // end, and nothing says that the input does: so it has a number of turns that no run uses up.
 #[tactic(auto, using(crate::proofs::ReadingLaws::goes_first, crate::proofs::ReadingLaws::first_room, crate::proofs::ReadingLaws::next_stopped))]

@@ -81,12 +81,12 @@ pub record Tells (buffer out : List ℕ) (c : Cursor) : Type 0 where
 abbrev pub journey_text : List ℕ → List ℕ
 journey_text input = worst_text (lines_of input)
 
--- what is in the output before it is written: what is printed for some input; or nothing, if reading was given up before the end
+-- what is in the output before it is written: what is printed for some input; or nothing
 pub record Ready (text : List ℕ) : Type 0 where
   pub input : List ℕ
   pub is : (text ≡ journey_text input) ⊎ (text ≡ [])
 
--- what the writer took, if there was no error: what is printed for some input, all of it; or nothing, if reading was given up
+-- what the writer took, if there was no error: what is printed for some input, all of it; or nothing
 pub record Printed (old new : Option (List ℕ)) : Type 0 where
   pub input : List ℕ
   pub took : Appends old new (journey_text input) ⊎ Keeps old new
