@@ -22,7 +22,7 @@
  * - x86-64 with SSE2 and the System V calling convention. It uses SSE registers and the red zone: on bare metal enable SSE
  *   before the first call, and let no interrupt use the 128 bytes below the stack pointer.
  * - memcpy and memset only: no heap, no other library.
- * - 6,128 bytes of stack in the deepest call (measured, not proved; docs/PROVED.md, 'Figures').
+ * - 816 bytes of stack in the deepest call (measured, not proved; docs/PROVED.md, 'Figures').
  * It writes no static data. Agents may run in parallel, each with its own buffers. */
 #ifndef SATURN_H
 #define SATURN_H
@@ -33,8 +33,8 @@
 /* the version of this header, and of the library that it was installed with */
 #define SATURN_VERSION_MAJOR 4
 #define SATURN_VERSION_MINOR 2
-#define SATURN_VERSION_PATCH 1
-#define SATURN_VERSION "4.2.1"
+#define SATURN_VERSION_PATCH 2
+#define SATURN_VERSION "4.2.2"
 
 #ifdef __cplusplus
 extern "C" {

@@ -1,12 +1,10 @@
 -- A frame that this module reads is whole: its source has 24 bits, and the data of a write are all there, from 12 on.
 -- Assumes nothing.
 use mathlib.Core.Path.{◌≡◌, refl, sym, ap, ◌∙◌}
-use mathlib.Core.List.{List, [], ◌∷◌}
-use Prim.Native.Nat.{ℕ, ◌≤◌}
+use mathlib.Core.List.{List}
+use Prim.Native.Nat.{ℕ}
 use native.Mathlib.Omega.{arith}
-use types.Run.{OneOf, miss}
-use denote.Enum.Declared.{tag_of}
-use lib.ListN.{length, take, drop, length-take, length-drop}
+use lib.ListN.{take, drop}
 use Rattle.base.specs.Bytes.{Bytes, number_at}
 use Rattle.base.proofs.Choosing.{by_test}
 use Rattle.fields.proofs.Tables.{length_laid}
@@ -14,19 +12,15 @@ use Rattle.frame_kinds.specs.Kinds.{head_of, data_place, data_in}
 use Rattle.frame_reading.specs.Reading.{read_app}
 use Rattle.frame_kinds.specs.declared.kinds.Frame.{Frame}
 use Rattle.frame_kinds.specs.declared.kinds.Frame.TheVariants.{Sync, SafeRead, SafeWrite, PlainRead, PlainWrite, SafeResponse, PlainSyncResponse, PlainResponse, TidAssignment, SidAssignment, SidAssignment4, Acknowledgement, Invariants}
-use Rattle.frame_forms.specs.declared.Read.{Read}
-use Rattle.frame_forms.specs.declared.Read.TheVariants.{Valid, Kind, Form, Check}
+use Rattle.frame_forms.specs.Forms.{Read}
+use Rattle.std.specs.Prelude.{Ok, Err}
 use Rattle.frame_writing.proofs.Fits.{FittingFrame}
 use Rattle.frame_writing.proofs.Standing.{Stands, stands_fitting}
 use Rattle.frame_writing.proofs.ValidStands.{stands}
-use Rattle.frame_kinds.specs.contracts.kinds.Frame.{the_type}
-use Rattle.rules.specs.Answers.{typ}
 use Rattle.rules.specs.FrameCall.{on_kind, served, is_sil4, agent_read}
-use Rattle.rules.specs.Marks.{format_marked}
-use Rattle.rules.specs.Replies.{does}
+use Rattle.rules.specs.Replies.{Deed}
 use Rattle.rules.specs.Requests.{writes, on_request}
 use Rattle.rules.specs.declared.Agent.{Agent}
-use Rattle.rules.specs.declared.Deed.{Deed}
 use Rattle.agent.specs.Whole.{Whole, WholeRead}
 
 module _ (addr : ℕ) (s : List ℕ) where
@@ -47,10 +41,8 @@ module _ (addr : ℕ) (s : List ℕ) where
 
   module _ (bs : Bytes s) where
     by_read : (r : Read) → read_app addr s ≡ r → WholeRead r s
-    by_read (Valid f) e = let st = stands addr s bs f e in by_kind f st (stands_fitting addr s f bs st)
-    by_read Kind e = tt
-    by_read Form e = tt
-    by_read Check e = tt
+    by_read (Ok f) e = let st = stands addr s bs f e in by_kind f st (stands_fitting addr s f bs st)
+    by_read (Err x) e = tt
 
     pub read_whole : WholeRead (agent_read addr s) s
     unfolding agent_read
@@ -58,10 +50,6 @@ module _ (addr : ℕ) (s : List ℕ) where
         by_test (λ r. WholeRead r s) (served (number_at s 0 1))
         (λ p. by_test (λ r. WholeRead r s) (is_sil4 s) (λ q. tt) (λ q. by_read (read_app addr s) refl))
         (λ p. tt)
-
--- a part is no longer than the whole
-pub part_length : (n i m : ℕ) (s : List ℕ) → length s ≤ m → length (take n (drop i s)) ≤ m
-part_length n i m s h = simp (length-take, length-drop) (omega (arith, h))
 
 -- the data of a write
 pub write_data : (dest src cyc seq datl add : ℕ) (s : List ℕ) → data_in (SafeWrite dest src cyc seq datl add) s ≡ take datl (drop 12 s)
@@ -75,19 +63,3 @@ module _ (port : ℕ) (a : Agent) (s : List ℕ) where
       → r ≡ on_kind port a (SafeWrite dest src cyc seq datl add) (data_in (SafeWrite dest src cyc seq datl add) s)
   write_asked dest src cyc seq datl add xs r d e =
       e ∙ ap (λ (ys : List ℕ). on_request port a dest src cyc seq (writes add ys)) (d ∙ sym (write_data dest src cyc seq datl add s))
-
-  -- the kinds that are not served
-  pub not_served : (f : Frame) → OneOf (3 ∷ 4 ∷ 5 ∷ 6 ∷ 7 ∷ 11 ∷ 12 ∷ []) (tag_of the_type f) → does typ (format_marked a) ≡ on_kind port a f (data_in f s)
-  not_served (PlainRead src datl add) k = refl
-  not_served (PlainWrite src datl add) k = refl
-  not_served (SafeResponse dest src cyc seq «com» datl add stat) k = refl
-  not_served (PlainSyncResponse src datl add stat) k = refl
-  not_served (PlainResponse src «com» datl add) k = refl
-  not_served (Acknowledgement src dst sec mac) k = refl
-  not_served (Invariants dest src cyc seq config logic) k = refl
-  not_served (Sync src cyc) k = absurd (miss (3 ∷ 4 ∷ 5 ∷ 6 ∷ 7 ∷ 11 ∷ 12 ∷ []) 0 tt k)
-  not_served (SafeRead dest src cyc seq datl add) k = absurd (miss (3 ∷ 4 ∷ 5 ∷ 6 ∷ 7 ∷ 11 ∷ 12 ∷ []) 1 tt k)
-  not_served (SafeWrite dest src cyc seq datl add) k = absurd (miss (3 ∷ 4 ∷ 5 ∷ 6 ∷ 7 ∷ 11 ∷ 12 ∷ []) 2 tt k)
-  not_served (TidAssignment src iid tid) k = absurd (miss (3 ∷ 4 ∷ 5 ∷ 6 ∷ 7 ∷ 11 ∷ 12 ∷ []) 8 tt k)
-  not_served (SidAssignment src sec mac sid) k = absurd (miss (3 ∷ 4 ∷ 5 ∷ 6 ∷ 7 ∷ 11 ∷ 12 ∷ []) 9 tt k)
-  not_served (SidAssignment4 src sec mac sid sid2 src2) k = absurd (miss (3 ∷ 4 ∷ 5 ∷ 6 ∷ 7 ∷ 11 ∷ 12 ∷ []) 10 tt k)

@@ -1,4 +1,4 @@
-// The bus agent of one SIL2 output module: power-up, tick and frame call, by value. One function for each
+// The bus agent of one SIL2 output module: power-up, tick and frame call, over the borrowed state. One function for each
 // rule, in the order and under the names of the definitions in `rules`; each contract is 'equal to its definition'.
 #![tactic(auto)]
 

@@ -9,29 +9,25 @@ use rules::Agent;
 
 // Sets 80h to BFh to 00h, OUT_REP to AAh, q to 0 and STATUT bit 7, and clears the mark; from RUN, 26h shows the ground.
 #[tactic(auto, unfolding(rules::specs::Fallback::enter_fallback))]
-pub fn enter_fallback(cause: u8, a: Agent) -> Agent
-    ensures { result ≡ enter_fallback cause a }
+pub fn enter_fallback(agent: &mut Agent, cause: u8)
+    ensures { agent.new ≡ enter_fallback cause agent.old }
 {
-    let shown = ground_after(a.mode, cause, a.regs[GROUND]);
-    let mut next = a;
-    next.regs[STATUT] = next.regs[STATUT] | 0x80;
-    next.regs[OUT_REP] = WITHHELD;
-    next.regs[GROUND] = shown;
-    fill(&mut next.regs, OUTPUTS, IMAGE, 0);
-    next.mode = IN_FALLBACK;
-    next.idle = 0;
-    next.mark = UNMARKED;
-    next
+    let shown = ground_after(agent.mode, cause, agent.regs[GROUND]);
+    agent.regs[STATUT] |= 0x80;
+    agent.regs[OUT_REP] = WITHHELD;
+    agent.regs[GROUND] = shown;
+    fill(&mut agent.regs, OUTPUTS, IMAGE, 0);
+    agent.mode = IN_FALLBACK;
+    agent.idle = 0;
+    agent.mark = UNMARKED;
 }
 
 // The mode becomes RUN, STATUT bit 7 is cleared, q = 0.
 #[tactic(auto, unfolding(rules::specs::Fallback::enter_run))]
-pub fn enter_run(a: Agent) -> Agent
-    ensures { result ≡ enter_run a }
+pub fn enter_run(agent: &mut Agent)
+    ensures { agent.new ≡ enter_run agent.old }
 {
-    let mut next = a;
-    next.regs[STATUT] = next.regs[STATUT] & 0x7F;
-    next.mode = IN_RUN;
-    next.idle = 0;
-    next
+    agent.regs[STATUT] &= 0x7F;
+    agent.mode = IN_RUN;
+    agent.idle = 0;
 }

@@ -1,2 +1,3 @@
 pub mod ReplyLaws
 pub mod SendingLaws
+pub mod InPlaceLaws

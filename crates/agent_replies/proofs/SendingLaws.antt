@@ -1,13 +1,11 @@
 -- A reply that fits is sent whole: its data bytes are those of the registers that the code lends, it takes at most 545
 -- bytes, and the writer does not refuse it. Assumes nothing.
-use Rattle.std.proofs.Common.{◌≡◌, ℕ, ◌+◌, ◌-◌, ◌≤◌, true, ◌&&◌, eqb, List, [], ◌∷◌, ◌++◌, length, take, drop, set, sym, refl, ap, ◌∙◌, ap₂, arith, length-drop, length-set, length-take-le, lt-ltb, eq-eqb}
-use types.Run.{OneOf, miss}
-use denote.Enum.Declared.{tag_of}
+use Rattle.std.proofs.Common.{◌≡◌, ℕ, ◌+◌, ◌-◌, ◌≤◌, true, ◌&&◌, eqb, List, ◌++◌, length, take, drop, set, sym, refl, ap, ◌∙◌, ap₂, arith, length-drop, length-set, length-take-le, lt-ltb, eq-eqb}
+use Rattle.std.specs.Prelude.{Ok}
+use Rattle.std.specs.Result.{result_unwrap_or}
 use Rattle.base.proofs.Choosing.{and_true}
 use Rattle.wire.specs.Body.{reserved_addr, fcs_of}
-use Rattle.laying.specs.Laying.{left_by}
-use Rattle.laying.specs.declared.Laid.{Laid}
-use Rattle.laying.specs.declared.Laid.TheVariants.{Sent}
+use Rattle.laying.specs.Laying.{Laid, left_by}
 use Rattle.laying.proofs.LayingLaws.{line_most}
 use Rattle.frame_kinds.specs.Kinds.{data_len, app_of}
 use Rattle.frame_forms.specs.Forms.{safe_com}
@@ -15,33 +13,16 @@ use Rattle.frame_kinds.specs.Sized.{Sized}
 use Rattle.frame_writing.specs.Writing.{is24, fields_fit, fits, frame_line, written_of}
 use Rattle.frame_kinds.specs.declared.kinds.Frame.{Frame}
 use Rattle.frame_kinds.specs.declared.kinds.Frame.TheVariants.{Sync, SafeRead, SafeWrite, PlainRead, PlainWrite, SafeResponse, PlainSyncResponse, PlainResponse, TidAssignment, SidAssignment, SidAssignment4, Acknowledgement, Invariants}
-use Rattle.frame_kinds.specs.contracts.kinds.Frame.{the_type}
 use Rattle.frame_writing.proofs.Sending.{sent}
 use Rattle.frame_writing.proofs.WritingLaws.{app_bounds}
 use Rattle.rules.specs.Registers.{statut}
 use Rattle.rules.specs.Replies.{reply_data}
 use Rattle.rules.specs.declared.Agent.{Agent}
 use Rattle.agent_replies.specs.Fitting.{Laying}
-use Rattle.agent_replies.specs.Handling.{length_in, part_of}
+use Rattle.agent_replies.specs.Handling.{part_of}
 use Rattle.agent_replies.specs.declared.sending.Part.{Part}
 
 -- ---- the registers that a reply shows
--- none, of a frame that is no safe response
-pub no_part : (f : Frame) → OneOf (0 ∷ 1 ∷ 2 ∷ 3 ∷ 4 ∷ 6 ∷ 7 ∷ 8 ∷ 9 ∷ 10 ∷ 11 ∷ 12 ∷ []) (tag_of the_type f) → ◌≡◌ {A = Part} (record { add = 0; datl = 0; stat = 0 }) (part_of f)
-no_part (SafeResponse dest src cyc seq «com» datl add stat) k = absurd (miss (0 ∷ 1 ∷ 2 ∷ 3 ∷ 4 ∷ 6 ∷ 7 ∷ 8 ∷ 9 ∷ 10 ∷ 11 ∷ 12 ∷ []) 5 tt k)
-no_part (Sync src cyc) k = refl
-no_part (SafeRead dest src cyc seq datl add) k = refl
-no_part (SafeWrite dest src cyc seq datl add) k = refl
-no_part (PlainRead src datl add) k = refl
-no_part (PlainWrite src datl add) k = refl
-no_part (PlainSyncResponse src datl add stat) k = refl
-no_part (PlainResponse src «com» datl add) k = refl
-no_part (TidAssignment src iid tid) k = refl
-no_part (SidAssignment src sec mac sid) k = refl
-no_part (SidAssignment4 src sec mac sid sid2 src2) k = refl
-no_part (Acknowledgement src dst sec mac) k = refl
-no_part (Invariants dest src cyc seq config logic) k = refl
-
 -- they lie in the registers, as many as the frame says, and the frame can be laid down
 record Shown (a : Agent) (f : Frame) : Type 0 where
   inside : (part_of f).add + (part_of f).datl ≤ 256
@@ -111,12 +92,12 @@ module _ (a : Agent) (f : Frame) (h : Laying f) where
 
     -- of n bytes of the buffer; l is the writer's answer for the data d
     module _ (n : ℕ) (k : 545 ≤ n) (d : List ℕ) (e : d ≡ xs) (l : Laid) (w : l ≡ written_of n 0xF0 f d) where
-      is_sent : l ≡ Sent (length (frame_line 0xF0 f xs))
+      is_sent : l ≡ Ok (length (frame_line 0xF0 f xs))
       unfolding reserved_addr
       is_sent = w ∙ ap (written_of n 0xF0 f) e ∙ sent n 0xF0 f xs refl reply_fits (omega (arith, reply_most))
 
-      pub sent_length : length_in l ≡ length (frame_line 0xF0 f xs)
-      sent_length = ap length_in is_sent
+      pub sent_length : result_unwrap_or l 0 ≡ length (frame_line 0xF0 f xs)
+      sent_length = ap (λ (m : Laid). result_unwrap_or m 0) is_sent
 
       pub sent_left : (before : List ℕ) → left_by l (frame_line 0xF0 f d) before ≡ frame_line 0xF0 f xs ++ drop (length (frame_line 0xF0 f xs)) before
       sent_left before = ap₂ (λ (m : Laid) (x : List ℕ). left_by m (frame_line 0xF0 f x) before) is_sent e

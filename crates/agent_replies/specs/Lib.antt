@@ -1,2 +1,3 @@
 pub mod Fitting
+pub mod Deeds
 pub mod Handling

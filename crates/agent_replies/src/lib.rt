@@ -1,5 +1,5 @@
-// Replies: built after the effect, and sent. One function for each rule, as in `rules`. Only the crates of the agent call
-// these.
+// Replies: built after the effect, and sent. One function for each rule, as in `rules`, over the borrowed state. Only the crates
+// of the agent call these.
 #![tactic(auto)]
 
 pub mod replies;

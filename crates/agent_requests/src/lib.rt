@@ -1,25 +1,48 @@
 // What a safe request does: its source, SID and cycle, then how far its SEQ is from the first of the cycle, then what it asks for.
-// One function for each rule, as in `rules`. Only the crates of the agent call these.
+// One function for each rule, as in `rules`, over the borrowed state. Only the crates of the agent call these.
 #![tactic(auto)]
 
-ghost use Rattle.std.specs.Prelude.{◌≡◌, ◌^◌, ◌<◌, ◌≤◌, length};
-ghost use Rattle.rules.specs.Requests.{first_seq, distance, on_ask, on_distance, on_request};
-ghost use Rattle.agent_requests.specs.Asks.{ask_of};
-ghost use Rattle.agent_replies.specs.Fitting.{Fitting};
+ghost use Rattle.std.specs.Prelude.{◌≡◌, ◌^◌, ◌<◌};
+ghost use Rattle.rules.specs.Requests.{first_seq, distance, on_ask, on_distance};
+ghost use Rattle.agent_replies.specs.Deeds.{deed_of};
+ghost use Rattle.agent_requests.specs.Asks.{ask_of, requested};
 
-use agent_marks::marks::{sequence_marked, skip_marked};
-use agent_replies::replies::{does, read_reply};
-use agent_state::answers::{ADDRESSEE, CYCLE, OUT_OF_ORDER, REPEAT, SOURCE, TOO_MANY};
+use agent_marks::marks::{mark_sequence, mark_skips};
+use agent_replies::replies::{Reply, read_reply};
+use agent_state::refusal::Refusal;
 use agent_state::sources::sid_of;
 use agent_state::state::{IS_HEARD, NOBODY};
 use agent_writes::on_write;
-use rules::{Agent, Deed};
+use rules::Agent;
+
+// What a request asks for.
+#[derive(Clone, Copy)]
+pub enum Ask<'a> {
+    // DATL and ADD
+    Reads(u8, u8),
+    // ADD, and the bytes
+    Writes(u8, &'a [u8]),
+}
+
+// A safe request as it was received, with its port.
+#[derive(Clone, Copy)]
+pub struct Request<'a> {
+    pub port: u8,
+    pub dest: u32,
+    pub src: u32,
+    pub cyc: u8,
+    pub seq: u8,
+    pub ask: Ask<'a>,
+}
+
+// How many numbers a request may skip.
+const MOST_SKIPPED: u8 = 3;
 
 // The first SEQ of a cycle is the complement of CYC plus one, modulo 256.
 fn first_seq(cyc: u8) -> u8
     ensures { result ≡ first_seq cyc }
 {
-    std::num::wrapping_add_u8(!cyc, 1)
+    (!cyc).wrapping_add(1)
 }
 
 // d = SEQ minus the first SEQ, modulo 256.
@@ -27,77 +50,68 @@ fn first_seq(cyc: u8) -> u8
 fn distance(seq: u8, cyc: u8) -> u8
     ensures { result ≡ distance seq cyc }
 {
-    std::num::wrapping_sub_u8(seq, first_seq(cyc))
+    seq.wrapping_sub(first_seq(cyc))
 }
 
-// What a request asks for: DATL and ADD of a read, or ADD of a write, whose bytes are passed along in a slice.
-#[derive(Clone, Copy)]
-pub enum Ask {
-    Reads(u8, u8),
-    Writes(u8),
-}
-
-fn on_ask(port: u8, a: Agent, src: u32, seq: u8, ask: Ask, xs: &[u8]) -> Deed
-    requires { (src < 2 ^ 24) × (length xs.now ≤ 272) }
-    ensures { (result ≡ on_ask port a src seq (ask_of ask xs.now)) × Fitting result.reply }
+fn on_ask(agent: &mut Agent, request: Request) -> Result<Option<Reply>, Refusal>
+    requires { request.src < 2 ^ 24 }
+    ensures { deed_of result agent.new ≡ on_ask request.entry.port agent.old request.entry.src request.entry.seq (ask_of request.entry.ask) }
 {
-    match ask {
-        Ask::Reads(datl, add) => read_reply(port, a, src, seq, datl, add),
-        Ask::Writes(add) => on_write(a, add, xs),
+    match request.ask {
+        Ask::Reads(datl, add) => Ok(Some(read_reply(
+            agent,
+            request.port,
+            request.src,
+            request.seq,
+            datl,
+            add,
+        ))),
+        Ask::Writes(add, bytes) => {
+            on_write(agent, add, bytes)?;
+            Ok(None)
+        }
     }
 }
-
-// How many numbers a request may skip.
-const MOST_SKIPPED: u8 = 3;
 
 // By the distance: below k is a repeat, a number skipped before too; above k + 3 is out of order; at the limit or past it is 15;
 // else the request is taken, even if its write is then refused: the numbers skipped are counted, and k becomes d + 1.
 #[tactic(auto, unfolding(rules::specs::Requests::on_distance))]
-fn on_distance(port: u8, a: Agent, src: u32, seq: u8, d: u8, ask: Ask, xs: &[u8]) -> Deed
-    requires { (src < 2 ^ 24) × (length xs.now ≤ 272) }
-    ensures { (result ≡ on_distance port a src seq d (ask_of ask xs.now)) × Fitting result.reply }
+fn on_distance(agent: &mut Agent, request: Request, d: u8) -> Result<Option<Reply>, Refusal>
+    requires { request.src < 2 ^ 24 }
+    ensures { deed_of result agent.new ≡ on_distance request.entry.port agent.old request.entry.src request.entry.seq d (ask_of request.entry.ask) }
 {
-    if d < a.taken {
-        return does(REPEAT, a);
+    if d < agent.taken {
+        return Err(Refusal::Repeat);
     }
-    let skips = d - a.taken;
+    let skips = d - agent.taken;
     if MOST_SKIPPED < skips {
-        return does(OUT_OF_ORDER, sequence_marked(a));
+        mark_sequence(agent);
+        return Err(Refusal::OutOfOrder);
     }
-    if a.fixed.limit <= d {
-        return does(TOO_MANY, a);
+    if agent.fixed.limit <= d {
+        return Err(Refusal::TooMany);
     }
-    let mut next = skip_marked(skips, a);
-    next.taken = d + 1;
-    on_ask(port, next, src, seq, ask, xs)
+    mark_skips(agent, skips);
+    agent.taken = d + 1;
+    on_ask(agent, request)
 }
 
 // 10 unless the source is that of the last accepted sync; 11 unless DEST is the own SID; 12 unless the cycle is heard
 // and CYC = c.
 #[tactic(auto, unfolding(rules::specs::Requests::on_request))]
-pub fn on_request(
-    port: u8,
-    a: Agent,
-    dest: u32,
-    src: u32,
-    cyc: u8,
-    seq: u8,
-    ask: Ask,
-    xs: &[u8],
-) -> Deed
-    requires { (src < 2 ^ 24) × (length xs.now ≤ 272) }
-    ensures { (result ≡ on_request port a dest src cyc seq (ask_of ask xs.now)) × Fitting result.reply }
+pub fn on_request(agent: &mut Agent, request: Request) -> Result<Option<Reply>, Refusal>
+    requires { request.src < 2 ^ 24 }
+    ensures { deed_of result agent.new ≡ requested request.entry agent.old }
 {
-    let stranger = (src == NOBODY) | !(src == a.last);
-    if stranger {
-        return does(SOURCE, a);
+    if request.src == NOBODY || request.src != agent.last {
+        return Err(Refusal::Source);
     }
-    if dest != sid_of(a) {
-        return does(ADDRESSEE, a);
+    if request.dest != sid_of(agent) {
+        return Err(Refusal::Addressee);
     }
-    let heard = (a.heard == IS_HEARD) & (cyc == a.cycle);
-    if !heard {
-        return does(CYCLE, sequence_marked(a));
+    if agent.heard != IS_HEARD || request.cyc != agent.cycle {
+        mark_sequence(agent);
+        return Err(Refusal::Cycle);
     }
-    on_distance(port, a, src, seq, distance(seq, cyc), ask, xs)
+    on_distance(agent, request, distance(request.seq, request.cyc))
 }

@@ -19,7 +19,7 @@ use Rattle.rules.specs.declared.Agent.{Agent}
 use Rattle.rules.proofs.Parts.{LastIs, Resting}
 use Rattle.rules.proofs.SoundParts.{parts, sound_of}
 use Rattle.rules.proofs.Ticking.{last_unheard}
-use Rattle.agent_rest.specs.Rest.{is_calm, at_rest, clock_of, with_clock_of, more_silence, clock_tick}
+use Rattle.agent_rest.specs.Rest.{is_calm, at_rest, Rests, clock_of, with_clock_of, more_silence, clock_tick}
 use Rattle.agent_rest.specs.declared.Clock.{Clock}
 
 -- ---- what is stored where it stands already
@@ -50,20 +50,6 @@ held_same l e =
     ∙ take-append-drop inputs_at l
 
 -- ---- at rest
-pub record Rests (a : Agent) : Type 0 where
-  pub rest_is : at_rest a ≡ true
-  pub registers : length a.regs ≡ 256
-  pub status_byte : reg a statut < 256
-  pub t_byte : t_of a < 256
-
-pub rest_none : (a : Agent) → is_calm a ≡ false → false ≡ at_rest a
-unfolding at_rest
-rest_none a e = sym (ap (λ (b : Bool). b && sound a) e)
-
-pub rest_calm : (a : Agent) (r : Bool) → is_calm a ≡ true → r ≡ sound a → r ≡ at_rest a
-unfolding at_rest
-rest_calm a r e q = q ∙ sym (ap (λ (b : Bool). b && sound a) e)
-
 module _ (a : Agent) (x : Rests a) where
   calm : is_calm a ≡ true
   unfolding at_rest

@@ -1,10 +1,10 @@
 -- A module at rest, and what a tick moves of it. Assumes nothing.
-use Rattle.std.specs.Prelude.{ℕ, zero, suc, ◌+◌, ◌%◌, Bool, not, ◌&&◌, ◌==◌, nat_le, nat_lt}
+use Rattle.std.specs.Prelude.{◌≡◌, true, length, ◌<◌, ℕ, zero, suc, ◌+◌, ◌%◌, Bool, not, ◌&&◌, ◌==◌, nat_le, nat_lt}
 use Rattle.base.specs.Choice.{choose}
 use Rattle.rules.specs.Fallback.{withheld}
-use Rattle.rules.specs.Registers.{out_rep}
+use Rattle.rules.specs.Registers.{out_rep, statut}
 use Rattle.rules.specs.Sound.{sound}
-use Rattle.rules.specs.State.{unheard, unmarked, running, reg, with_clock, with_cycle}
+use Rattle.rules.specs.State.{unheard, unmarked, running, reg, t_of, with_clock, with_cycle}
 use Rattle.rules.specs.Tick.{silence_end}
 use Rattle.rules.specs.declared.Agent.{Agent}
 use Rattle.agent_rest.specs.declared.Clock.{Clock}
@@ -16,6 +16,13 @@ is_calm a = not (running a) && reg a out_rep == withheld && a.mark == unmarked
 -- and sound
 unfoldable pub at_rest : Agent → Bool
 at_rest a = is_calm a && sound a
+
+-- and its registers are bytes
+pub record Rests (a : Agent) : Type 0 where
+  pub rest_is : at_rest a ≡ true
+  pub registers : length a.regs ≡ 256
+  pub status_byte : reg a statut < 256
+  pub t_byte : t_of a < 256
 
 -- e, s, c, heard and k of a module, and a module with others
 abbrev pub clock_of : Agent → Clock

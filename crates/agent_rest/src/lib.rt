@@ -2,13 +2,13 @@
 // scripts use it; no firmware does.
 #![tactic(auto)]
 
-ghost use Rattle.std.specs.Prelude.{◌≡◌};
-ghost use Rattle.agent_rest.specs.Rest.{at_rest, clock_of, with_clock_of, more_silence, clock_tick, clock_ticks};
+ghost use Rattle.std.specs.Prelude.{◌≡◌, IsTrue};
+ghost use Rattle.agent_rest.specs.Rest.{at_rest, Rests, clock_of, with_clock_of, clock_tick, clock_ticks};
 ghost use Rattle.rules.specs.State.{t_of};
 
 use agent_state::registers::{OUT_REP, TCYC};
-use agent_state::sound::sound;
-use agent_state::state::{IN_RUN, UNHEARD, UNMARKED, WITHHELD};
+use agent_state::sound::is_sound;
+use agent_state::state::{UNHEARD, UNMARKED, WITHHELD, is_running};
 use rules::Agent;
 
 // What a tick moves: e, s, c, heard and k.
@@ -21,81 +21,55 @@ pub struct Clock {
     pub taken: u8,
 }
 
-// s stops here.
-const SILENCE_END: u16 = 65535;
-
-#[tactic(auto, using(crate::proofs::RestLaws::rest_none, crate::proofs::RestLaws::rest_calm))]
-pub fn at_rest(a: Agent) -> bool
-    ensures { result ≡ at_rest a }
+#[tactic(auto, unfolding(crate::specs::Rest::at_rest))]
+pub fn is_at_rest(agent: &Agent) -> bool
+    ensures test { result ≡ at_rest agent.now }
+    ensures rests { IsTrue result → Rests agent.now }
 {
-    let out_rep = a.regs[OUT_REP];
-    let calm = (a.mode != IN_RUN) & (out_rep == WITHHELD) & (a.mark == UNMARKED);
-    if !calm {
-        return false;
-    }
-    sound(a)
-}
-
-fn more_silence(s: u16) -> u16
-    ensures { result ≡ more_silence s }
-{
-    if s < SILENCE_END { s + 1 } else { SILENCE_END }
+    !is_running(agent)
+        && agent.regs[OUT_REP] == WITHHELD
+        && agent.mark == UNMARKED
+        && is_sound(agent)
 }
 
 // One tick, with TCYC t.
-#[tactic(auto, using(crate::proofs::ClockLaws::clock_over, crate::proofs::ClockLaws::clock_on))]
-fn clock_tick(t: u8, clock: Clock) -> Clock
-    ensures { result ≡ clock_tick t clock }
+#[tactic(auto, unfolding(crate::specs::Rest::clock_tick))]
+fn tick_clock(clock: &mut Clock, t: u8)
+    ensures { clock.new ≡ clock_tick t clock.old }
 {
-    let elapsed = std::num::wrapping_add_u8(clock.elapsed, 1);
-    let silence = more_silence(clock.silence);
-    if t <= elapsed {
-        return Clock {
-            elapsed: 0,
-            silence,
-            cycle: std::num::wrapping_add_u8(clock.cycle, 1),
-            heard: UNHEARD,
-            taken: 0,
-        };
-    }
-    Clock {
-        elapsed,
-        silence,
-        cycle: clock.cycle,
-        heard: clock.heard,
-        taken: clock.taken,
+    clock.elapsed = clock.elapsed.wrapping_add(1);
+    clock.silence = clock.silence.saturating_add(1);
+    if t <= clock.elapsed {
+        clock.elapsed = 0;
+        clock.cycle = clock.cycle.wrapping_add(1);
+        clock.heard = UNHEARD;
+        clock.taken = 0;
     }
 }
 
-fn clock_ticks(t: u8, n: u64, clock: Clock) -> Clock
-    ensures { result ≡ clock_ticks t n clock }
+fn tick_clock_by(clock: &mut Clock, t: u8, n: u64)
+    ensures { clock.new ≡ clock_ticks t n clock.old }
 {
-    let mut now = clock;
-    let mut i: u64 = 0;
-    while i < n {
-        now = clock_tick(t, now);
-        i += 1;
+    for _ in 0..n {
+        tick_clock(clock, t);
     }
-    now
 }
 
 // n ticks of a module at rest.
-pub fn rest_ticks(a: Agent, n: u64) -> Agent
-    ensures { result ≡ with_clock_of (clock_ticks (t_of a) n (clock_of a)) a }
+pub fn rest_ticks(agent: &mut Agent, n: u64)
+    ensures { agent.new ≡ with_clock_of (clock_ticks (t_of agent.old) n (clock_of agent.old)) agent.old }
 {
-    let clock = Clock {
-        elapsed: a.elapsed,
-        silence: a.silence,
-        cycle: a.cycle,
-        heard: a.heard,
-        taken: a.taken,
+    let mut clock = Clock {
+        elapsed: agent.elapsed,
+        silence: agent.silence,
+        cycle: agent.cycle,
+        heard: agent.heard,
+        taken: agent.taken,
     };
-    let end = clock_ticks(a.regs[TCYC], n, clock);
-    let mut next = a;
-    next.elapsed = end.elapsed;
-    next.silence = end.silence;
-    next.cycle = end.cycle;
-    next.heard = end.heard;
-    next.taken = end.taken;
-    next
+    tick_clock_by(&mut clock, agent.regs[TCYC], n);
+    agent.elapsed = clock.elapsed;
+    agent.silence = clock.silence;
+    agent.cycle = clock.cycle;
+    agent.heard = clock.heard;
+    agent.taken = clock.taken;
 }

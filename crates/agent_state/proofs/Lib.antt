@@ -1,4 +1,4 @@
+pub mod RefusalLaws
 pub mod LowNumbers
 pub mod SourceLoops
-pub mod SoundFacts
 pub mod SoundLaws

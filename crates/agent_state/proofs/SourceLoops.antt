@@ -1,41 +1,33 @@
 -- The tests over the first n recorded concentrators, after one more turn of a loop. Assumes nothing.
 use mathlib.Core.Path.{◌≡◌, refl, sym, ap, ap₂, ◌∙◌}
 use mathlib.Core.Bool.{Bool, true, false, not, ◌&&◌, ◌||◌}
-use mathlib.Core.List.{List}
+use mathlib.Core.List.{List, [], ◌∷◌}
 use mathlib.Core.Logic.{⊎_elim}
 use Prim.Native.Nat.{ℕ, zero, suc, ◌+◌, ◌≤◌, ◌<◌}
 use native.Mathlib.Nat.{eq-or-lt_of_le, le_of_suc-le-suc}
 use native.Mathlib.Numerals.{add-one}
 use native.Mathlib.Omega.{arith}
-use borrow.Author.Tests.{eq-eqb, ne_eqb}
-use lib.Dec.{eqb, ltb}
-use lib.ListN.{length, get_or, get_or-eq_default}
-use Rattle.base.proofs.Choosing.{or_first, or_second}
+use lib.Dec.{eqb, ltb, eqb-suc-zero, eqb-zero-suc}
+use lib.ListN.{length, get_or, take, get_or-eq_default}
+use lib.Seq.{take-suc}
+use Rattle.std.specs.List.{list_any}
+use Rattle.std.proofs.lemmas.List.Folds.{list_any-append}
 use Rattle.rules.specs.Sources.{holds, distinct, below24, is_recorded}
 use Rattle.rules.specs.State.{nobody}
 use Rattle.rules.specs.declared.Agent.{Agent}
 
-pub holds_none : (l : List ℕ) (x : ℕ) → false ≡ holds l 0 x
-unfolding holds
-holds_none l x = refl
+-- among the first n of the list
+or_none : (b : Bool) → (b || false) ≡ b
+or_none true = refl
+or_none false = refl
 
--- another one, and x itself
-pub holds_turn : (l : List ℕ) (n x : ℕ) → (get_or l n 0 ≡ x → ⊥) → false ≡ holds l n x → false ≡ holds l (n + 1) x
+pub holds_any : (l : List ℕ) (n x : ℕ) → n ≤ length l → list_any (λ y. eqb y x) (take n l) ≡ holds l n x
 unfolding holds
-holds_turn l n x h p =
-    sym (ap₂ (λ (b c : Bool). b || c) (sym p) (ne_eqb (get_or l n 0) x h)) ∙ ap (λ (m : ℕ). holds l m x) (sym (add-one n))
-
-found : (l : List ℕ) (n i x : ℕ) → i < n → get_or l i 0 ≡ x → holds l n x ≡ true
-unfolding holds
-found l zero i x h e = absurd (omega arith)
-found l (suc n) i x h e =
-    ⊎_elim
-    (λ (s : i ≡ n). or_second (holds l n x) (eqb (get_or l n 0) x) (eq-eqb (get_or l n 0) x (ap (λ (j : ℕ). get_or l j 0) (sym s) ∙ e)))
-    (λ (p : i < n). or_first (holds l n x) (eqb (get_or l n 0) x) (found l n i x p e))
-    (eq-or-lt_of_le (le_of_suc-le-suc h))
-
-pub holds_found : (l : List ℕ) (n i x : ℕ) → i < n → get_or l i 0 ≡ x → true ≡ holds l n x
-holds_found l n i x h e = sym (found l n i x h e)
+holds_any l zero x h = refl
+holds_any l (suc n) x h =
+    ap (list_any (λ y. eqb y x)) (take-suc l n 0 h)
+    ∙ list_any-append (λ y. eqb y x) (take n l) (get_or l n 0 ∷ [])
+    ∙ ap₂ (λ (b c : Bool). b || c) (holds_any l n x (omega arith)) (or_none (eqb (get_or l n 0) x))
 
 -- a place past the end reads 0
 past_two : (b z : Bool) → (b || z || z) ≡ (b || z)
@@ -54,11 +46,21 @@ holds_past l n (suc m) x h k =
     (λ (p : n < m). ap (λ (c : Bool). c || eqb 0 x) (holds_past l n m x h p) ∙ past_two (holds l n x) (eqb 0 x))
     (eq-or-lt_of_le (le_of_suc-le-suc k))
 
+zero_swap : (x : ℕ) → eqb x 0 ≡ eqb 0 x
+zero_swap zero = refl
+zero_swap (suc n) = eqb-suc-zero n ∙ sym (eqb-zero-suc n)
+
 -- more than are there
-pub recorded_many : (a : Agent) (x : ℕ) (b : Bool) → length a.known ≡ 8 → 8 < a.count → b ≡ holds a.known 8 x → (b || eqb 0 x) ≡ is_recorded a x
-unfolding is_recorded
-recorded_many a x b e h p =
-    ap (λ (c : Bool). c || eqb 0 x) p ∙ sym (holds_past a.known 8 a.count x (omega arith) h)
+module _ (a : Agent) (x : ℕ) (e : length a.known ≡ 8) (h : 8 < a.count) where
+  past : is_recorded a x ≡ (holds a.known 8 x || eqb 0 x)
+  unfolding is_recorded
+  past = holds_past a.known 8 a.count x (omega arith) h
+
+  pub many_held : true ≡ holds a.known 8 x → true ≡ is_recorded a x
+  many_held p = sym (past ∙ ap (λ (c : Bool). c || eqb 0 x) (sym p))
+
+  pub many_zero : false ≡ holds a.known 8 x → eqb x 0 ≡ is_recorded a x
+  many_zero p = zero_swap x ∙ sym (past ∙ ap (λ (c : Bool). c || eqb 0 x) (sym p))
 
 -- distinct, and none FFFFFFh or more
 abbrev pub Listed : List ℕ → ℕ → Bool

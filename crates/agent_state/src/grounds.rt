@@ -1,4 +1,5 @@
-// The grounds that register 26h shows, by name, and which of them it shows after fallback is entered.
+// The grounds that register 26h shows, by name, and which of them it shows after fallback is entered. They stay numbers: the register
+// holds one, and `ground_after` and `enter_fallback` take any byte, so a type of these five would ask more of callers.
 ghost use Rattle.std.specs.Prelude.{◌≡◌, eqb};
 ghost use Rattle.base.specs.Choice.{choose};
 ghost use Rattle.rules.specs.State.{in_run};

@@ -1,10 +1,11 @@
 // The parts of the agent's state and what is done to each: registers, the ground, TID, limit of requests, recorded
-// concentrators, soundness. One function for each rule, as in `rules`. Only the crates of the agent call these.
+// concentrators, soundness; and why a call is refused. One function for each rule, as in `rules`, over the borrowed state. Only the
+// crates of the agent call these.
 #![tactic(auto)]
 
-pub mod answers;
 pub mod grounds;
 pub mod limit;
+pub mod refusal;
 pub mod registers;
 pub mod sound;
 pub mod sources;

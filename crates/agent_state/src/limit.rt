@@ -10,5 +10,5 @@ pub const DOORS_LIMIT: u8 = 64;
 pub fn is_limit(n: u8) -> bool
     ensures { result ≡ is_limit n }
 {
-    (n == LIGHTING_LIMIT) | (n == DOORS_LIMIT)
+    n == LIGHTING_LIMIT || n == DOORS_LIMIT
 }

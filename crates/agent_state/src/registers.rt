@@ -1,5 +1,6 @@
-// The registers by name (document 000, table 1), and numbers in registers: the low byte has the low address.
-ghost use Rattle.std.specs.Prelude.{◌≡◌, ◌+◌, ◌*◌, ◌^◌, ◌<◌, ◌≤◌, length, replicate};
+// The registers by name (document 000, table 1), runs of stores into them, and numbers in registers: the low byte has the low
+// address.
+ghost use Rattle.std.specs.Prelude.{◌≡◌, ◌+◌, ◌^◌, ◌<◌, ◌≤◌, length, replicate};
 ghost use Rattle.std.proofs.lemmas.List.Edits.{sets};
 ghost use Rattle.rules.specs.Registers.{low_bytes, low_number};
 
@@ -45,50 +46,23 @@ pub const INPUTS: usize = 0xC0;
 // How many outputs, and how many inputs, there are.
 pub const IMAGE: usize = 64;
 
-fn wide(x: u8) -> u64
-    ensures { (result ≡ x) × (result < 256) }
+// Stores bytes, starting at `at`. By a loop: `copy_from_slice` would call memmove where the bytes are a request's, and the header
+// says that the archive needs memcpy and memset only; a tick would take 125 instructions more.
+pub fn put(regs: &mut [u8; 256], at: usize, bytes: &[u8])
+    requires { at + length bytes.now ≤ 256 }
+    ensures { regs.new ≡ sets regs.old at bytes.now }
 {
-    x as u64
-}
-
-fn word(x: u8) -> u32
-    ensures { (result ≡ x) × (result < 256) }
-{
-    x as u32
-}
-
-// The product of two bytes, which fits 16 bits.
-pub fn product(x: u8, y: u8) -> u16
-    ensures { result ≡ x * y }
-{
-    (x as u16) * (y as u16)
-}
-
-// The number in the three registers starting at `at`.
-#[tactic(auto, using(crate::proofs::LowNumbers::number_three))]
-pub fn number3(regs: &[u8; 256], at: usize) -> u32
-    requires { at + 3 ≤ 256 }
-    ensures { (result ≡ low_number regs.now at 3) × (result < 2 ^ 24) }
-{
-    let low = word(regs[at]);
-    let middle = word(regs[at + 1]);
-    let high = word(regs[at + 2]);
-    low + (middle + high * 256) * 256
-}
-
-// The number in the eight registers starting at `at`.
-#[tactic(auto, using(crate::proofs::LowNumbers::number_none, crate::proofs::LowNumbers::number_end))]
-pub fn number8(regs: &[u8; 256], at: usize) -> u64
-    requires { at + 8 ≤ 256 }
-    ensures { result ≡ low_number regs.now at 8 }
-{
-    let mut n: u64 = 0;
-    let mut left: usize = 8;
-    while 0 < left {
-        left -= 1;
-        n = n * 256 + wide(regs[at + left]);
+    for (i, &b) in bytes.iter().enumerate() {
+        regs[at + i] = b;
     }
-    n
+}
+
+// Stores one value in `count` registers, starting at `at`.
+pub fn fill(regs: &mut [u8; 256], at: usize, count: usize, x: u8)
+    requires { at + count ≤ 256 }
+    ensures { regs.new ≡ sets regs.old at (replicate count x) }
+{
+    regs[at..at + count].fill(x);
 }
 
 // Stores the `width` low bytes of a number, starting at `at`.
@@ -98,36 +72,36 @@ pub fn put_low(regs: &mut [u8; 256], at: usize, width: usize, n: u64)
     ensures { regs.new ≡ sets regs.old at (low_bytes width n) }
 {
     let mut rest = n;
-    let mut i: usize = 0;
-    while i < width {
+    for i in 0..width {
         regs[at + i] = (rest % 256) as u8;
-        rest = rest / 256;
-        i += 1;
+        rest /= 256;
     }
 }
 
-// Stores one value in `count` registers, starting at `at`.
-#[tactic(auto, using(base::proofs::Fills::fill_turn, base::proofs::Fills::fill_end))]
-pub fn fill(regs: &mut [u8; 256], at: usize, count: usize, x: u8)
-    requires { at + count ≤ 256 }
-    ensures { regs.new ≡ sets regs.old at (replicate count x) }
+// The number in the three registers starting at `at`.
+#[tactic(auto, unfolding(rules::specs::Registers::low_number))]
+pub fn number3(regs: &[u8; 256], at: usize) -> u32
+    requires { at + 3 ≤ 256 }
+    ensures number { result ≡ low_number regs.now at 3 }
+    ensures short { result < 2 ^ 24 }
 {
-    let mut i: usize = 0;
-    while i < count {
-        regs[at + i] = x;
-        i += 1;
-    }
+    u32::from_le_bytes([regs[at], regs[at + 1], regs[at + 2], 0])
 }
 
-// Stores bytes, starting at `at`.
-#[tactic(auto, using(base::proofs::Stores::copy_turn, base::proofs::Stores::copy_end))]
-pub fn put_bytes(regs: &mut [u8; 256], at: usize, xs: &[u8])
-    requires { at + length xs.now ≤ 256 }
-    ensures { regs.new ≡ sets regs.old at xs.now }
+// The number in the eight registers starting at `at`.
+#[tactic(auto, unfolding(rules::specs::Registers::low_number))]
+pub fn number8(regs: &[u8; 256], at: usize) -> u64
+    requires { at + 8 ≤ 256 }
+    ensures { result ≡ low_number regs.now at 8 }
 {
-    let mut i: usize = 0;
-    while i < xs.len() {
-        regs[at + i] = xs[i];
-        i += 1;
-    }
+    u64::from_le_bytes([
+        regs[at],
+        regs[at + 1],
+        regs[at + 2],
+        regs[at + 3],
+        regs[at + 4],
+        regs[at + 5],
+        regs[at + 6],
+        regs[at + 7],
+    ])
 }

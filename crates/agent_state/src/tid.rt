@@ -5,8 +5,8 @@ ghost use Rattle.rules.specs.Assignments.{assignable};
 pub const UNASSIGNED: u8 = 0x8F;
 
 // 01h to 8Eh, but not 7Dh or 7Eh.
-pub fn assignable(tid: u8) -> bool
+pub fn is_assignable(tid: u8) -> bool
     ensures { result ≡ assignable tid }
 {
-    ((0x01 <= tid) & (tid <= 0x8E)) & !((tid == 0x7D) | (tid == 0x7E))
+    (0x01..=0x8E).contains(&tid) && !matches!(tid, 0x7D | 0x7E)
 }

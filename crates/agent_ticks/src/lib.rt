@@ -1,5 +1,5 @@
-// What the tick call does: the inputs are stored, then the tick runs. One function for each rule, as in `rules`. Only the
-// crates of the agent call these, and `firmware`.
+// What the tick call does: the inputs are stored, then the tick runs. One function for each rule, as in `rules`, over the borrowed
+// state. Only the crates of the agent call these, and `firmware`.
 #![tactic(auto)]
 
 pub mod inputs;

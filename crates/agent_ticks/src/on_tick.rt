@@ -1,16 +1,27 @@
-// The tick call that is accepted: a sound state and 64 inputs.
+// The tick call that is accepted: a state with room for a tick, and 64 inputs.
 ghost use Rattle.std.specs.Prelude.{◌≡◌};
-ghost use Rattle.rules.specs.Answers.{accepted};
-ghost use Rattle.rules.specs.Calls.{tick_call};
+ghost use Rattle.agent_state.specs.Room.{HasRoom};
+ghost use Rattle.rules.specs.Inputs.{with_inputs};
+ghost use Rattle.rules.specs.Tick.{ticked};
 
-use crate::inputs::with_inputs;
+use crate::inputs::store_inputs;
 use crate::tick::tick;
 use rules::Agent;
 
-#[tactic(auto, using(crate::proofs::AcceptedLaws::accepted_asks, crate::proofs::AcceptedLaws::accepted_does))]
-pub fn on_tick(a: Agent, xs: &[u8]) -> Agent
-    requires { (tick_call a xs.now).answer ≡ accepted }
-    ensures { result ≡ (tick_call a xs.now).agent }
+#[tactic(auto, unfolding(rules::specs::Inputs::with_inputs))]
+pub fn on_tick(agent: &mut Agent, inputs: &[u8; 64])
+    requires { HasRoom agent.old }
+    ensures { agent.new ≡ ticked (with_inputs inputs.now agent.old) }
 {
-    tick(with_inputs(xs, a))
+    store_inputs(agent, inputs);
+    tick(agent);
+}
+
+// The same by value.
+pub fn ticked(mut agent: Agent, inputs: &[u8; 64]) -> Agent
+    requires { HasRoom agent }
+    ensures { result ≡ ticked (with_inputs inputs.now agent) }
+{
+    on_tick(&mut agent, inputs);
+    agent
 }

@@ -9,10 +9,7 @@ pub fn copy_at(src: &[u8], dst: &mut [u8], from: usize) -> usize
     requires { from + length src.now ≤ length dst.old }
     ensures { (result ≡ from + length src.now) × (dst.new ≡ sets dst.old from src.now) }
 {
-    let mut i: usize = 0;
-    while i < src.len() {
-        dst[from + i] = src[i];
-        i += 1;
-    }
-    from + i
+    let end = from + src.len();
+    dst[from..end].copy_from_slice(src);
+    end
 }

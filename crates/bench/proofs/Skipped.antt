@@ -15,14 +15,13 @@ use Rattle.rules.specs.Fixed.{is_limit, lighting_limit, doors_limit, fits}
 use Rattle.rules.specs.Marks.{skip_marked}
 use Rattle.rules.specs.PowerUp.{power_regs}
 use Rattle.rules.specs.Registers.{typ_at, cpt_seq, outputs_at, low_bytes, low_number}
-use Rattle.rules.specs.Replies.{Outcome, read_reply, send_frame, sent}
+use Rattle.rules.specs.Replies.{Deed, Outcome, read_reply, send_frame, sent}
 use Rattle.rules.specs.Requests.{distance, taken_at, reads, on_distance, on_request}
 use Rattle.rules.specs.Sound.{settings_sound, sources_sound, counters_sound, outputs_zero, run_sound, fallback_sound, sound}
 use Rattle.rules.specs.Sources.{holds, distinct, below24, is_recorded, sid_of}
 use Rattle.rules.specs.State.{reg}
 use Rattle.rules.specs.Writes.{span_at, span_of, on_write}
 use Rattle.rules.specs.declared.Agent.{Agent}
-use Rattle.rules.specs.declared.Deed.{Deed}
 use Rattle.rules.proofs.Refused.{sent_answer}
 use Rattle.rules.proofs.Skips.{below, beyond, past_limit, in_reach}
 use Rattle.bench.specs.BusCalls.{own_sid, own_tid, concentrator, comes, seq_of, after, answers}

@@ -20,7 +20,7 @@ use Rattle.rules.specs.Fixed.{lighting_limit, doors_limit, is_limit, fixed_by, f
 use Rattle.rules.specs.FrameCall.{is_own, on_kind}
 use Rattle.rules.specs.PowerUp.{power_regs, power_up}
 use Rattle.rules.specs.Registers.{sid_at, out_rep, tcyc, low_bytes, low_number}
-use Rattle.rules.specs.Replies.{Outcome, outcome, does, sync_reply, acknowledges, send_frame, sent}
+use Rattle.rules.specs.Replies.{Deed, Outcome, outcome, does, sync_reply, acknowledges, send_frame, sent}
 use Rattle.rules.specs.Requests.{distance, writes}
 use Rattle.rules.specs.Sound.{settings_sound, sources_sound, counters_sound, outputs_zero, run_sound, fallback_sound, sound}
 use Rattle.rules.specs.Sources.{holds, distinct, below24, is_recorded, recorded, sid_of}
@@ -28,7 +28,6 @@ use Rattle.rules.specs.State.{in_run, in_fallback, is_heard, unheard, unmarked, 
 use Rattle.rules.specs.Sync.{heard_sync, synced, on_sync}
 use Rattle.rules.specs.Writes.{span_at, span_of, on_write}
 use Rattle.rules.specs.declared.Agent.{Agent}
-use Rattle.rules.specs.declared.Deed.{Deed}
 use Rattle.rules.proofs.AtLimit.{due_below, relimited, sound_relimited}
 use Rattle.rules.proofs.Cases.{Addressed}
 use Rattle.rules.proofs.GoodStart.{limit_fits, good_start}

@@ -1,8 +1,7 @@
 -- Cases on the bench, P1 to P14: one table of statements over the rules. Assumes nothing.
 use Rattle.std.specs.Prelude.{true, List, [], ◌∷◌, ◌++◌, ◌≡◌, ℕ, zero, suc, ◌-◌, ◌≤◌, length, take, drop}
-use Rattle.crc.specs.Crc.{crc_of}
-use Rattle.crc.specs.declared.Poly.TheVariants.{Fcs}
-use Rattle.wire.specs.Body.{read_body, verdict_number}
+use Rattle.crc.specs.Crc.{Fcs, crc_of}
+use Rattle.wire.specs.Body.{answer_to_body}
 use Rattle.stuffing.specs.Stuffing.{stuff}
 use Rattle.frame_writing.specs.Writing.{frame_line}
 use Rattle.frame_kinds.specs.declared.kinds.Frame.TheVariants.{SafeResponse}
@@ -60,9 +59,9 @@ Says' p3 = first_seq 0xFF ≡ 0x01
 -- 7E 31 7D stuffs to 7D 5E 31 7D 5D
 Says' p4 = stuff (0x7E ∷ 0x31 ∷ 0x7D ∷ []) ≡ 0x7D ∷ 0x5E ∷ 0x31 ∷ 0x7D ∷ 0x5D ∷ []
 -- in the stuffed part of a body of 7 to 543 bytes 7D 31 is 2
-Says' p5 = (a : ℕ) (xs ys : List ℕ) → 7 ≤ length (a ∷ (xs ++ (0x7D ∷ 0x31 ∷ ys))) → length (a ∷ (xs ++ (0x7D ∷ 0x31 ∷ ys))) ≤ 543 → verdict_number (read_body (a ∷ (xs ++ (0x7D ∷ 0x31 ∷ ys)))).verdict ≡ 2
+Says' p5 = (a : ℕ) (xs ys : List ℕ) → 7 ≤ length (a ∷ (xs ++ (0x7D ∷ 0x31 ∷ ys))) → length (a ∷ (xs ++ (0x7D ∷ 0x31 ∷ ys))) ≤ 543 → (answer_to_body (a ∷ (xs ++ (0x7D ∷ 0x31 ∷ ys)))).0 ≡ 2
 -- there a last 7D is 2
-Says' p6 = (a : ℕ) (xs : List ℕ) → 7 ≤ length (a ∷ (xs ++ (0x7D ∷ []))) → length (a ∷ (xs ++ (0x7D ∷ []))) ≤ 543 → verdict_number (read_body (a ∷ (xs ++ (0x7D ∷ [])))).verdict ≡ 2
+Says' p6 = (a : ℕ) (xs : List ℕ) → 7 ≤ length (a ∷ (xs ++ (0x7D ∷ []))) → length (a ∷ (xs ++ (0x7D ∷ []))) ≤ 543 → (answer_to_body (a ∷ (xs ++ (0x7D ∷ [])))).0 ≡ 2
 -- FCS rule over ASCII 123456789 is 29B1h
 Says' p7 = crc_of Fcs (0x31 ∷ 0x32 ∷ 0x33 ∷ 0x34 ∷ 0x35 ∷ 0x36 ∷ 0x37 ∷ 0x38 ∷ 0x39 ∷ []) ≡ 0x29B1
 -- power-up and 255 ticks: c = 01h

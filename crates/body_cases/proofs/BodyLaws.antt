@@ -1,65 +1,50 @@
 -- Laws of a case of bodies: one for each way through the code. Assumes nothing.
-use mathlib.Core.Path.{◌≡◌, refl, sym, ap, ap₂, ◌∙◌}
+use mathlib.Core.Path.{◌≡◌, ap, ◌∙◌}
 use mathlib.Core.List.{List, [], ◌∷◌, append-nil}
 use Prim.Native.Nat.{ℕ, ◌-◌, ◌≤◌, ◌<◌}
 use native.Mathlib.Omega.{arith}
 use borrow.Author.Tests.{lt-ltb, le-ltb}
-use lib.ListN.{length, take, drop, length-take, length-drop}
+use lib.ListN.{length, take, drop, length-drop}
 use lib.Seq.{take_all}
 use Rattle.base.specs.Bytes.{number_at}
-use Rattle.wire.specs.Answer.{Answer}
-use Rattle.wire.specs.Body.{verdict_answer, verdict_number, body_answer}
-use Rattle.wire.specs.declared.Verdict.{Verdict}
-use Rattle.wire.specs.declared.Verdict.TheVariants.{Valid, Length, Stuffing, Size, Check, Reserved}
-use Rattle.wire.specs.declared.Body.{Body}
-use Rattle.frame_words.specs.Texts.{no_text, put, puts}
-use Rattle.frame_words.specs.declared.texts.Text.{Text}
+use Rattle.std.specs.Prelude.{Ok, Err}
+use Rattle.wire.specs.Body.{ReadBody, number_of, body_answer, read_body, answer_to_body}
+use Rattle.wire.specs.declared.LineFault.{LineFault}
+use Rattle.wire.proofs.BodyLength.{Short, read_short}
+use Rattle.frame_words.specs.Texts.{put, puts}
 use Rattle.cases.specs.Cases.{Says}
 use Rattle.cases.specs.Layings.{pattern}
 use Rattle.cases.proofs.AnswerLaws.{says_none, says_pieces}
 use Rattle.body_cases.specs.Answers.{read_bytes, laid_into, lay_answer}
 
 -- ---- a body that is read
-refused : (v : Verdict) (a : ℕ) (xs : List ℕ) → (verdict_number v ≡ 0 → ⊥) → verdict_number v ∷ [] ≡ read_bytes (verdict_answer v a xs)
-refused Valid a xs h = absurd (h refl)
-refused Length a xs h = refl
-refused Stuffing a xs h = refl
-refused Size a xs h = refl
-refused Check a xs h = refl
-refused Reserved a xs h = refl
+-- by what was read
+short : (r : ReadBody) → Short r → length (read_bytes (body_answer r)) ≤ 271
+short (Ok (a, xs)) h = omega arith
+short (Err e) h = omega arith
 
-valid : (v : Verdict) (a : ℕ) (xs : List ℕ) → verdict_number v ≡ 0 → verdict_number v ∷ a ∷ xs ≡ read_bytes (verdict_answer v a xs)
-valid Valid a xs e = refl
-valid Length a xs e = absurd (omega arith)
-valid Stuffing a xs e = absurd (omega arith)
-valid Size a xs e = absurd (omega arith)
-valid Check a xs e = absurd (omega arith)
-valid Reserved a xs e = absurd (omega arith)
+module _ (s : List ℕ) (t : List ℕ) where
+  reads : (r : ReadBody) → r ≡ read_body s → length (read_bytes (answer_to_body s)) ≤ 603
+  reads r e = omega (arith, short (read_body s) (read_short s))
 
-module _ (b : Body) (o : Answer (ℕ × List ℕ)) (e : body_answer b ≡ o) (n : ℕ) (p : n ≡ verdict_number b.verdict) (t : Text) where
-  pub read_refused : (n ≡ 0 → ⊥) → t ≡ put no_text (n ∷ []) → Says t (read_bytes o)
-  read_refused h q =
-      let r : n ∷ [] ≡ read_bytes o =
-      ap (λ (m : ℕ). m ∷ []) p ∙ refused b.verdict b.addr (take b.len b.bytes) (λ z. h (p ∙ z)) ∙ ap read_bytes e in
-      says_pieces ((n ∷ []) ∷ []) (read_bytes o) t q r (omega (arith, ap length r))
+  pub read_refused : (e : LineFault) (n : ℕ) → Err e ≡ read_body s → n ≡ number_of e → t ≡ put [] (n ∷ []) → Says t (read_bytes (answer_to_body s))
+  read_refused e n p q u =
+      let w : n ∷ [] ≡ read_bytes (answer_to_body s) = ap (λ (m : ℕ). m ∷ []) q ∙ ap (λ (r : ReadBody). read_bytes (body_answer r)) p in
+      says_pieces ((n ∷ []) ∷ []) (read_bytes (answer_to_body s)) t u w (omega (arith, reads _ p))
 
-  pub read_valid : (k : ℕ) → length b.bytes ≡ 272 → take k b.bytes ≡ take b.len b.bytes → n ≡ 0
-      → t ≡ puts no_text ((n ∷ b.addr ∷ []) ∷ take k b.bytes ∷ []) → Says t (read_bytes o)
-  read_valid k l c h q =
-      let xs : List ℕ = take k b.bytes in
-      let r : n ∷ b.addr ∷ xs ≡ read_bytes o =
-      ap₂ (λ (m : ℕ) (s : List ℕ). m ∷ b.addr ∷ s) p c ∙ valid b.verdict b.addr (take b.len b.bytes) (sym p ∙ h) ∙ ap read_bytes e in
-      says_pieces ((n ∷ b.addr ∷ []) ∷ xs ∷ []) (read_bytes o) t q (ap (λ (s : List ℕ). n ∷ b.addr ∷ s) (append-nil xs) ∙ r)
-      (omega (arith, ap length r, length-take k b.bytes))
+  pub read_valid : (a : ℕ) (xs : List ℕ) → Ok (a, xs) ≡ read_body s → t ≡ puts [] ((0 ∷ a ∷ []) ∷ xs ∷ []) → Says t (read_bytes (answer_to_body s))
+  read_valid a xs p u =
+      let w : 0 ∷ a ∷ xs ≡ read_bytes (answer_to_body s) = ap (λ (r : ReadBody). read_bytes (body_answer r)) p in
+      says_pieces ((0 ∷ a ∷ []) ∷ xs ∷ []) (read_bytes (answer_to_body s)) t u (ap (λ (l : List ℕ). 0 ∷ a ∷ l) (append-nil xs) ∙ w) (omega (arith, reads _ p))
 
 -- ---- application data laid down
-module _ (s : List ℕ) (t : Text) where
-  pub lay_short : length s < 3 → t ≡ no_text → Says t (lay_answer s)
+module _ (s : List ℕ) (t : List ℕ) where
+  pub lay_short : length s < 3 → t ≡ [] → Says t (lay_answer s)
   unfolding lay_answer
   lay_short h e = rw (lt-ltb (length s) 3 h) (says_none t e)
 
   module _ (h : 3 ≤ length s) (n : ℕ) (p : n ≡ number_at s 0 2) where
-    pub lay_wide : 600 < n → t ≡ no_text → Says t (lay_answer s)
+    pub lay_wide : 600 < n → t ≡ [] → Says t (lay_answer s)
     unfolding lay_answer
     lay_wide k e = rw (le-ltb (length s) 3 h, ← p, lt-ltb 600 n k) (says_none t e)
 

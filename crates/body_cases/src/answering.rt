@@ -1,31 +1,28 @@
 // A body that is read, or application data that are laid down, by the operation.
 ghost use Rattle.std.specs.Prelude.{◌≤◌, length};
 ghost use Rattle.wire.specs.Body.{answer_to_body};
-ghost use Rattle.cases.specs.Cases.{answer_to, case_in, Says};
+ghost use Rattle.cases.specs.Cases.{Says};
 ghost use Rattle.body_cases.specs.Answers.{read_bytes, laid_into, lay_answer, body_answers};
 
-use cases::{answers, layings};
-use console::blocks;
-use fields::{byte_field, word_field};
-use frame_words::texts;
+use cases::layings;
+use cases::running::Cases;
+use fields::Reader;
 use frame_words::texts::Text;
 
 // The number and, with 0, the address and the application data.
-#[tactic(auto, using(crate::proofs::BodyLaws::read_refused))]
 fn read(s: &[u8]) -> Text
     ensures { Says result (read_bytes (answer_to_body s.now)) }
 {
-    let b = wire::read_body(s);
-    let verdict = b.verdict;
-    let bytes = b.bytes;
-    let addr = b.addr;
-    let n = wire::verdict_number(verdict);
-    if n != 0 {
-        return texts::add(texts::no_text(), &[n]);
+    let mut bytes = [0; 272];
+    let mut t = Text::new();
+    match wire::read_body(s, &mut bytes) {
+        Ok(body) => {
+            t.add(&[0, body.addr]);
+            t.add(body.data);
+        }
+        Err(fault) => t.add(&[fault.number()]),
     }
-    let k = blocks::least(bytes.len(), b.len);
-    let t = texts::add(texts::no_text(), &[n, addr]);
-    texts::add(t, &bytes[..k])
+    t
 }
 
 #[tactic(auto, using(cases::proofs::LayingLaws::laid_says))]
@@ -43,39 +40,29 @@ fn lay(s: &[u8]) -> Text
     ensures { Says result (lay_answer s.now) }
 {
     if s.len() < 3 {
-        return texts::no_text();
+        return Text::new();
     }
-    let room = word_field(s, 0) as usize;
+    let r = Reader::new(s);
+    let room = usize::from(r.u16());
     if layings::MOST < room {
-        return texts::no_text();
+        return Text::new();
     }
     let mut buf = layings::pattern();
-    lay_into(&mut buf[..room], byte_field(s, 2), &s[3..])
+    lay_into(&mut buf[..room], r.at(2).u8(), &s[3..])
 }
 
-#[tactic(auto, using(cases::proofs::AnswerLaws::says_first, cases::proofs::AnswerLaws::says_second, cases::proofs::AnswerLaws::says_other), unfolding(crate::specs::Answers::body_answers))]
-fn answer(op: u8, s: &[u8]) -> Text
-    ensures { Says result (body_answers op s.now) }
-{
-    if op == 0 {
-        return read(s);
-    }
-    if op == 1 {
-        return lay(s);
-    }
-    texts::no_text()
-}
+#[derive(Drop)]
+pub struct BodyCases;
 
-// The answer to a line of `len` characters, of which the buffer keeps the first.
-#[tactic(auto, using(cases::proofs::RunningLaws::line_none, cases::proofs::RunningLaws::line_some))]
-pub fn answer_line(line: &[u8], len: usize) -> Text
-    ensures { Says result (answer_to body_answers (case_in line.now len)) }
-{
-    let case = answers::case_in(line, len);
-    let bytes = case.bytes;
-    let n = blocks::least(bytes.len(), case.len);
-    if n == 0 {
-        return texts::no_text();
+impl Cases for BodyCases {
+    ghost answers = { body_answers };
+
+    #[tactic(auto, using(cases::proofs::AnswerLaws::says_none, cases::proofs::AnswerLaws::says_first, cases::proofs::AnswerLaws::says_second, cases::proofs::AnswerLaws::says_other), unfolding(crate::specs::Answers::body_answers))]
+    fn answer(&self, op: u8, s: &[u8]) -> Text {
+        match op {
+            0 => read(s),
+            1 => lay(s),
+            _ => Text::new(),
+        }
     }
-    answer(bytes[0], &bytes[1..n])
 }

@@ -3,9 +3,7 @@
 use mathlib.Core.Path.{refl}
 use lib.Count.{ones, ones_in}
 use lib.Dec.{lit<}
-use Rattle.crc.specs.Crc.{poly_of, crc_start, crc_of}
-use Rattle.crc.specs.declared.Poly.{Poly}
-use Rattle.crc.specs.declared.Poly.TheVariants.{Fcs, Safety}
+use Rattle.crc.specs.Crc.{poly_of, crc_start, crc_of, Poly, Fcs, Safety}
 use Rattle.crc.proofs.Bound.{poly_lt}
 use Rattle.burst.specs.Promise.{WithConstant, EvenTerms, SeesBursts, SeesOdd}
 use Rattle.burst.proofs.Bursts.{bursts}

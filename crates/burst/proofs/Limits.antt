@@ -6,9 +6,7 @@ use native.Mathlib.Omega.{arith}
 use lib.Count.{ones, ones_in}
 use lib.ListN.{get_or, replicate}
 use Rattle.base.proofs.BitList.{byte_bits, bits_of}
-use Rattle.crc.specs.Crc.{top_bit, crc_bit, crc_bits, crc_byte, crc_from, crc_of}
-use Rattle.crc.specs.declared.Poly.{Poly}
-use Rattle.crc.specs.declared.Poly.TheVariants.{Fcs, Safety}
+use Rattle.crc.specs.Crc.{top_bit, crc_bit, crc_bits, crc_byte, crc_from, crc_of, Poly, Fcs, Safety}
 use Rattle.burst.specs.Damage.{Burst, flips}
 use Rattle.burst.specs.Promise.{longest, Missed}
 use Rattle.burst.proofs.Window.{after_drop}

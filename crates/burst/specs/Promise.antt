@@ -5,8 +5,7 @@
 use Rattle.std.specs.Prelude.{◌≡◌, List, [], ◌∷◌, ◌++◌, ℕ, ◌+◌, ◌*◌, ◌%◌, ◌^◌, ◌<◌, length}
 use Rattle.std.specs.Int.Count.{ones}
 use Rattle.base.specs.Bytes.{Bytes}
-use Rattle.crc.specs.Crc.{crc_from, crc_of}
-use Rattle.crc.specs.declared.Poly.{Poly}
+use Rattle.crc.specs.Crc.{crc_from, crc_of, Poly}
 use Rattle.burst.specs.Damage.{Burst, flips}
 
 -- the longest burst that is always detected, in bits

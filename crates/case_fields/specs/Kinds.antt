@@ -88,19 +88,3 @@ lengths = 5 ∷ 12 ∷ 12 ∷ 3 ∷ 3 ∷ 14 ∷ 4 ∷ 4 ∷ 10 ∷ 20 ∷ 28 �
 
 abbrev pub fields_len : ℕ → ℕ
 fields_len kind = get_or lengths kind 0
-
--- ---- the steps of the code: a kind's number, and the widths of the fields of `head_of` after TYP
-abbrev pub row_in : Frame → List ℕ
-row_in (Sync src cyc) = 0x00 ∷ 4 ∷ 1 ∷ 0 ∷ 0 ∷ 0 ∷ 0 ∷ 0 ∷ []
-row_in (SafeRead dest src cyc seq datl add) = 0x01 ∷ 4 ∷ 4 ∷ 1 ∷ 1 ∷ 0 ∷ 1 ∷ 1 ∷ []
-row_in (SafeWrite dest src cyc seq datl add) = 0x02 ∷ 4 ∷ 4 ∷ 1 ∷ 1 ∷ 0 ∷ 1 ∷ 1 ∷ []
-row_in (PlainRead src datl add) = 0x03 ∷ 1 ∷ 0 ∷ 1 ∷ 1 ∷ 0 ∷ 0 ∷ 0 ∷ []
-row_in (PlainWrite src datl add) = 0x04 ∷ 1 ∷ 0 ∷ 1 ∷ 1 ∷ 0 ∷ 0 ∷ 0 ∷ []
-row_in (SafeResponse dest src cyc seq «com» datl add stat) = 0x05 ∷ 4 ∷ 4 ∷ 1 ∷ 1 ∷ 1 ∷ 1 ∷ 1 ∷ []
-row_in (PlainSyncResponse src datl add stat) = 0x06 ∷ 1 ∷ 0 ∷ 1 ∷ 1 ∷ 0 ∷ 0 ∷ 0 ∷ []
-row_in (PlainResponse src «com» datl add) = 0x07 ∷ 1 ∷ 1 ∷ 1 ∷ 1 ∷ 0 ∷ 0 ∷ 0 ∷ []
-row_in (TidAssignment src iid tid) = 0x08 ∷ 1 ∷ 8 ∷ 1 ∷ 0 ∷ 0 ∷ 0 ∷ 0 ∷ []
-row_in (SidAssignment src sec mac sid) = 0x09 ∷ 4 ∷ 4 ∷ 8 ∷ 4 ∷ 0 ∷ 0 ∷ 0 ∷ []
-row_in (SidAssignment4 src sec mac sid sid2 src2) = 0x0A ∷ 4 ∷ 4 ∷ 8 ∷ 4 ∷ 4 ∷ 4 ∷ 0 ∷ []
-row_in (Acknowledgement src dst sec mac) = 0x0B ∷ 4 ∷ 4 ∷ 4 ∷ 8 ∷ 0 ∷ 0 ∷ 0 ∷ []
-row_in (Invariants dest src cyc seq config logic) = 0x0C ∷ 4 ∷ 4 ∷ 1 ∷ 1 ∷ 2 ∷ 2 ∷ 0 ∷ []

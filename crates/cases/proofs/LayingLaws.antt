@@ -9,10 +9,8 @@ use lib.Seq.{take_all, take-suc-set}
 use Rattle.base.specs.Bytes.{bytes_of}
 use Rattle.base.proofs.Numbers.{length_bytes_of}
 use Rattle.base.proofs.Fills.{left_turn, left_end}
-use Rattle.laying.specs.Laying.{laid_answer, left_by}
-use Rattle.laying.specs.declared.Laid.{Laid}
-use Rattle.frame_words.specs.Texts.{no_text, puts}
-use Rattle.frame_words.specs.declared.texts.Text.{Text}
+use Rattle.laying.specs.Laying.{Laid, laid_answer, left_by}
+use Rattle.frame_words.specs.Texts.{puts}
 use Rattle.cases.specs.Cases.{Says}
 use Rattle.cases.proofs.AnswerLaws.{says_pieces}
 use Rattle.cases.specs.Layings.{pattern_from, pattern, sent_len, laid_bytes}
@@ -35,8 +33,8 @@ pattern_end buf i h l p =
     sym (take_all i buf (omega arith)) ∙ sym (append-nil (take i buf)) ∙ ap (λ (n : ℕ). take i buf ++ pattern_from i n) (sym (left_end 600 i h)) ∙ p
 
 -- a buffer of at most 600 bytes is printed whole
-pub laid_says : (laid : Laid) (line buf out : List ℕ) (t : Text) → length out ≤ 600 → out ≡ left_by laid line buf
-    → t ≡ puts no_text (((laid_answer laid).0 ∷ []) ∷ bytes_of 2 (sent_len laid) ∷ out ∷ []) → Says t (laid_bytes laid line buf)
+pub laid_says : (laid : Laid) (line buf out : List ℕ) (t : List ℕ) → length out ≤ 600 → out ≡ left_by laid line buf
+    → t ≡ puts [] (((laid_answer laid).0 ∷ []) ∷ bytes_of 2 (sent_len laid) ∷ out ∷ []) → Says t (laid_bytes laid line buf)
 laid_says laid line buf out t h e p =
     let k : List ℕ = bytes_of 2 (sent_len laid) in
     let q : (laid_answer laid).0 ∷ (k ++ (out ++ [])) ≡ laid_bytes laid line buf = ap (λ (s : List ℕ). (laid_answer laid).0 ∷ (k ++ s)) (append-nil out ∙ e) in

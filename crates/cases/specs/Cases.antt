@@ -1,18 +1,15 @@
 -- The case programs: a line in hex digits is a case, its first byte is the operation, and the answer is bytes, printed in
 -- hex digits. Assumes nothing.
-use Rattle.std.specs.Prelude.{◌≡◌, List, [], ◌∷◌, ◌++◌, ℕ, ◌≤◌, eqb, ltb, length, take}
-use Rattle.std.proofs.Math.Option.{Option, none, some}
+use Rattle.std.specs.Prelude.{◌≡◌, List, [], ◌∷◌, ◌++◌, ℕ, ◌≤◌, eqb, ltb, length, None, Option, Some}
 use Rattle.base.specs.Choice.{choose}
 use Rattle.text.specs.Hex.{hex_pairs}
 use Rattle.text.specs.Putting.{hex_text}
 use Rattle.console.specs.Programs.{Program}
 use Rattle.frame_words.specs.Chars.{chars}
-use Rattle.frame_words.specs.Texts.{text_in}
-use Rattle.frame_words.specs.declared.texts.Text.{Text}
 
 abbrev pub bytes_in : Option (List ℕ) → List ℕ
-bytes_in none = []
-bytes_in (some bs) = bs
+bytes_in None = []
+bytes_in (Some bs) = bs
 
 -- the bytes of a line; none if it has over 1,200 characters, or is not pairs of hex digits
 unfoldable pub case_of : List ℕ → List ℕ
@@ -36,12 +33,7 @@ answer_text (b ∷ bs) = hex_text (b ∷ bs) ++ (0x0A ∷ [])
 abbrev pub answering : (ℕ → List ℕ → List ℕ) → Program Unit
 answering f = record { start = tt; first = []; next = λ u l. u; says = λ u l. answer_text (answer_to f (case_of l)); ends = λ u. [] }
 
--- ---- the steps of the code
--- the bytes of a line of len characters, of which a buffer keeps the first
-unfoldable pub case_in : List ℕ → ℕ → List ℕ
-case_in line len = choose (ltb (length line) len) [] (case_of (take len line))
-
 -- the text t holds the answer bs, which is short enough to be printed
-pub record Says (t : Text) (bs : List ℕ) : Type 0 where
-  pub is : text_in t ≡ bs
+pub record Says (t bs : List ℕ) : Type 0 where
+  pub is : t ≡ bs
   pub fits : length bs ≤ 603

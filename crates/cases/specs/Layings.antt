@@ -1,9 +1,7 @@
 -- Laying down as a case: into a buffer with a pattern in it. Assumes nothing.
-use Rattle.std.specs.Prelude.{List, [], ◌∷◌, ◌++◌, ℕ, zero, suc, ◌+◌, ◌%◌}
+use Rattle.std.specs.Prelude.{List, [], ◌∷◌, ◌++◌, ℕ, zero, suc, ◌+◌, ◌%◌, Ok, Err}
 use Rattle.base.specs.Bytes.{bytes_of}
-use Rattle.laying.specs.Laying.{laid_answer, left_by}
-use Rattle.laying.specs.declared.Laid.{Laid}
-use Rattle.laying.specs.declared.Laid.TheVariants.{Sent, Reserved, Form, Room}
+use Rattle.laying.specs.Laying.{Laid, laid_answer, left_by}
 
 -- byte i is i modulo 251: n bytes, from byte i on
 unfoldable pub pattern_from : ℕ → ℕ → List ℕ
@@ -15,10 +13,8 @@ pattern = pattern_from 0 600
 
 -- the length on the line; 0 for a refusal
 abbrev pub sent_len : Laid → ℕ
-sent_len (Sent n) = n
-sent_len Reserved = 0
-sent_len Form = 0
-sent_len Room = 0
+sent_len (Ok n) = n
+sent_len (Err e) = 0
 
 -- the answer: document 01's number, the length in two bytes, and the buffer as it is left
 abbrev pub laid_bytes : Laid → List ℕ → List ℕ → List ℕ

@@ -3,55 +3,46 @@
 ghost use Rattle.std.specs.Prelude.{◌≡◌, [], ◌∷◌};
 ghost use Rattle.base.specs.Bytes.{bytes_of};
 ghost use Rattle.laying.specs.Laying.{laid_answer};
-ghost use Rattle.frame_words.specs.Texts.{no_text, put, puts};
-ghost use Rattle.cases.specs.Layings.{sent_len};
-ghost use Rattle.cases.specs.Layings.{pattern as Layings·pattern};
+ghost use Rattle.frame_words.specs.Texts.{put, puts};
+ghost use Rattle.cases.specs.Layings.{sent_len, pattern};
 
-use frame_words::texts;
 use frame_words::texts::Text;
-use laying::Laid;
+use laying::Unfit;
 
 // The longest buffer that a case may ask for.
 pub const MOST: usize = 600;
 
-// Byte i is i modulo 251.
+// Byte i is i modulo 251. `as`, here and below, narrows a remainder, and no From does.
 #[tactic(auto, unfolding(crate::specs::Layings::pattern))]
 pub fn pattern() -> [u8; 600]
-    ensures { result ≡ Layings·pattern }
+    ensures { result ≡ pattern }
 {
     let mut buf = [0u8; 600];
-    let mut i: usize = 0;
-    while i < 600 {
-        buf[i] = (i % 251) as u8;
-        i += 1;
+    for (i, b) in buf.iter_mut().enumerate() {
+        *b = (i % 251) as u8;
     }
     buf
 }
 
-// The length on the line; 0 for a refusal.
-fn sent_len(laid: Laid) -> usize
-    ensures { result ≡ sent_len laid }
-{
-    match laid {
-        Laid::Sent(n) => n,
-        Laid::Reserved => 0,
-        Laid::Form => 0,
-        Laid::Room => 0,
-    }
-}
-
 // Adds a number in two bytes, high byte first.
 #[tactic(auto, unfolding(base::specs::Bytes::bytes_of))]
-pub fn add_word(t: Text, n: usize) -> Text
-    ensures { result ≡ put t (bytes_of 2 n) }
+pub fn add_word(t: &mut Text, n: usize)
+    ensures { t.new ≡ put t.old (bytes_of 2 n) }
 {
-    texts::add(t, &[(n / 256 % 256) as u8, (n % 256) as u8])
+    t.add(&((n % 65536) as u16).to_be_bytes());
 }
 
-// The answer, by the result of laying down and the buffer after it.
-pub fn laid_answer(laid: Laid, buf: &[u8]) -> Text
-    ensures { result ≡ puts no_text (((laid_answer laid).0 ∷ []) ∷ bytes_of 2 (sent_len laid) ∷ buf.now ∷ []) }
+// The answer, by the result of laying down and the buffer after it; the length of a refusal is 0.
+pub fn laid_answer(laid: Result<usize, Unfit>, buf: &[u8]) -> Text
+    ensures { result ≡ puts [] (((laid_answer laid).0 ∷ []) ∷ bytes_of 2 (sent_len laid) ∷ buf.now ∷ []) }
 {
-    let t = texts::add(texts::no_text(), &[laying::laid_number(laid)]);
-    texts::add(add_word(t, sent_len(laid)), buf)
+    let (number, len) = match laid {
+        Ok(len) => (0, len),
+        Err(unfit) => (unfit.number(), 0),
+    };
+    let mut t = Text::new();
+    t.add(&[number]);
+    add_word(&mut t, len);
+    t.add(buf);
+    t
 }

@@ -1,5 +1,7 @@
-// What the case programs share: the bytes of a line's case, the text of an answer, and the answer to laying down.
+// What the case programs share: the bytes of a line's case, the text of an answer, the answer to laying down, and the program over
+// all lines.
 #![tactic(auto)]
 
 pub mod answers;
 pub mod layings;
+pub mod running;

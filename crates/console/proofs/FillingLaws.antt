@@ -1,17 +1,11 @@
 -- A buffer that is filled by reads, one behind the other. Assumes nothing.
-use Rattle.std.proofs.Common.{◌≡◌, ℕ, ◌+◌, ◌≤◌, List, ◌++◌, length, take, sym, ap, ◌∙◌, append_assoc}
+use Rattle.std.proofs.Common.{◌≡◌, ℕ, ◌+◌, ◌≤◌, List, ◌++◌, length, take, sym, ap, ◌∙◌}
 use Rattle.std.proofs.lemmas.List.{take-append-le, length-take-le}
 use Rattle.std.proofs.Math.Seq.{take-append-add}
-use Rattle.std.specs.Prelude.{None, Some}
 use Rattle.std.specs.Io.KnownBytes.{Consumes}
 use Rattle.std.specs.declared.option.Option.{Option}
+use Rattle.console.proofs.KnownLaws.{loses_more}
 use borrow.Rule.Slice.PartMut.{put_mid, post_of}
-
-pub loses_more : (a b c : Option (List ℕ)) (s t : List ℕ) → Consumes a b s → Consumes b c t → Consumes a c (s ++ t)
-loses_more None b c s t p q = tt
-loses_more (Some xs) None c s t p q = absurd p
-loses_more (Some xs) (Some ys) None s t p q = absurd q
-loses_more (Some xs) (Some ys) (Some zs) s t p q = p ∙ ap (λ (u : List ℕ). s ++ u) q ∙ sym (append_assoc s t zs)
 
 -- n bytes more, put behind those that were read
 pub fills_more : (a b c : Option (List ℕ)) (buf piece : List ℕ) (done n k : ℕ) → done ≤ length buf → n ≤ length piece

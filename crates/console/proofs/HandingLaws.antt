@@ -1,31 +1,116 @@
--- Laws of text handed on, and of the first elements of a list. Assumes nothing.
+-- Laws of what a writer took of a text: the front of it, more of it, a beginning; and of what is printed for an input. Assumes nothing.
 use mathlib.Core.Path.{◌≡◌, refl, sym, ap, ◌∙◌}
+use mathlib.Core.Bool.{true}
 use mathlib.Core.List.{List, [], ◌++◌, append_assoc, append-nil}
-use Prim.Native.Nat.{ℕ, ◌+◌, ◌≤◌, ◌<◌}
+use Prim.Native.Nat.{ℕ, ◌-◌}
 use native.Mathlib.Omega.{arith}
-use lib.ListN.{length, take}
-use lib.Seq.{take_all}
-use Rattle.console.specs.Handing.{Handed}
+use lib.ListN.{length, take, drop, length-drop, take-append-drop}
+use Rattle.std.specs.Prelude.{None, Some, Ok, Err, OnOk, OnErr}
+use Rattle.std.specs.declared.result.Result.{Result}
+use Rattle.std.proofs.lemmas.List.{take_all}
+use Rattle.std.specs.declared.option.Option.{Option}
+use Rattle.std.specs.Io.KnownBytes.{Appends, Consumes, IsAtEnd}
+use Rattle.console.proofs.KnownLaws.{takes_none, takes_more}
+use Rattle.console.specs.Handing.{HandsOn, AppendsFront, Printed, PrintedFront}
 
--- nothing, and all that stands
-pub handed_none : (out : List ℕ) (to : ℕ) → to + 2048 ≤ length out → Handed out to to
-handed_none out to h = record { room = h; text = []; rest = refl }
+-- ---- the front of a page
+pub hands_all : (a b : Option (List ℕ)) (page page' : List ℕ) → Appends a b page → page' ≡ [] → HandsOn a b page page'
+hands_all a b page page' p e = record { front = page; all = ap (λ (u : List ℕ). page ++ u) e ∙ append-nil page; took = p }
 
-pub handed_all : (out : List ℕ) (to : ℕ) → 2048 ≤ length out → Handed out to 0
-handed_all out to h = record { room = omega arith; text = take to out; rest = append-nil (take to out) }
+module _ (a : Option (List ℕ)) (page : List ℕ) where
+  hands_more : (b : Option (List ℕ)) (rest : List ℕ) (c : Option (List ℕ)) (n : ℕ) → HandsOn a b page rest → Appends b c (take n rest)
+      → HandsOn a c page (drop n rest)
+  hands_more b rest c n h t = record {
+    front = h.front ++ take n rest;
+    all = append_assoc h.front (take n rest) (drop n rest) ∙ ap (λ (u : List ℕ). h.front ++ u) (take-append-drop n rest) ∙ h.all;
+    took = takes_more a b c h.front (take n rest) h.took t;
+  }
 
--- one part behind the other
-pub handed_both : (out : List ℕ) (to mid place : ℕ) → Handed out to mid → Handed out mid place → Handed out to place
-handed_both out to mid place x y = record {
-  room = y.room;
-  text = x.text ++ y.text;
-  rest = append_assoc x.text y.text (take place out) ∙ ap (λ (t : List ℕ). x.text ++ t) y.rest ∙ x.rest;
+  -- as the code has the rest
+  pub hands_part : (b : Option (List ℕ)) (rest : List ℕ) (c : Option (List ℕ)) (n : ℕ) → HandsOn a b page rest → Appends b c (take n rest)
+      → HandsOn a c page (take (length rest - n) (drop n rest))
+  hands_part b rest c n h t = rw (take_all (length rest - n) (drop n rest) (omega (arith, length-drop n rest))) (hands_more b rest c n h t)
+
+  -- and a beginning of the rest
+  pub hands_fails : (b : Option (List ℕ)) (rest : List ℕ) (c : Option (List ℕ)) → HandsOn a b page rest → AppendsFront b c rest → AppendsFront a c page
+  hands_fails b rest c h f = record {
+    front = h.front ++ f.front;
+    rest = f.rest;
+    all = append_assoc h.front f.front f.rest ∙ ap (λ (u : List ℕ). h.front ++ u) f.all ∙ h.all;
+    took = takes_more a b c h.front f.front h.took f.took;
+  }
+
+  -- and all of it
+  pub hands_whole : (b : Option (List ℕ)) (rest : List ℕ) (c : Option (List ℕ)) → HandsOn a b page rest → Appends b c rest → Appends a c page
+  hands_whole b rest c h t = rw (← h.all) (takes_more a b c h.front rest h.took t)
+
+-- ---- a beginning of a text
+-- nothing of it
+pub front_none : (a : Option (List ℕ)) (text : List ℕ) → AppendsFront a a text
+front_none a text = record { front = []; rest = text; all = refl; took = takes_none a }
+
+-- is one of any text that goes on from it
+pub front_longer : (a b : Option (List ℕ)) (s t : List ℕ) → AppendsFront a b s → AppendsFront a b (s ++ t)
+front_longer a b s t f = record {
+  front = f.front;
+  rest = f.rest ++ t;
+  all = sym (append_assoc f.front f.rest t) ∙ ap (λ (u : List ℕ). u ++ t) f.all;
+  took = f.took;
 }
 
--- what was handed on so far, and then all that stands
-pub handed_rest : (out : List ℕ) (to place : ℕ) → Handed out to place → Handed out to 0
-handed_rest out to place x = handed_both out to place 0 x (handed_all out place (omega (arith, x.room)))
+-- and one of a text that begins with what was handed on
+pub hands_longer : (a b : Option (List ℕ)) (page page' t : List ℕ) → HandsOn a b page page' → HandsOn a b (page ++ t) (page' ++ t)
+hands_longer a b page page' t h = record {
+  front = h.front;
+  all = sym (append_assoc h.front page' t) ∙ ap (λ (u : List ℕ). u ++ t) h.all;
+  took = h.took;
+}
 
--- all of a list that is shorter
-pub all_of : (len n : ℕ) → len < n → (s : List ℕ) → length s ≡ len → take len s ≡ take n s
-all_of len n h s e = take_all len s (omega arith) ∙ sym (take_all n s (omega arith))
+-- ---- what is known at an error
+pub at_error : {T E P : Type 0} (r : Result T E) → P → OnErr r P
+at_error (Ok x) p = tt
+at_error (Err e) p = p
+
+-- ---- what is printed, where it is known what the reader has: for all of that
+module _ (text : List ℕ → List ℕ) (all : List ℕ) (left old new : Option (List ℕ)) where
+  pub printed_known : Printed text (Some all) left old new → Appends old new (text all)
+  printed_known p = by left p.lost p.last
+    where
+      by : (o : Option (List ℕ)) → Consumes (Some all) o p.read → (p.ended ≡ true → IsAtEnd o) → Appends old new (text all)
+      by None c e = absurd c
+      by (Some ys) c e = rw c (p.took ys e)
+
+  pub begun_known : PrintedFront text (Some all) left old new → AppendsFront old new (text all)
+  begun_known p = by left p.lost p.last
+    where
+      by : (o : Option (List ℕ)) → Consumes (Some all) o p.read → (p.ended ≡ true → IsAtEnd o) → AppendsFront old new (text all)
+      by None c e = absurd c
+      by (Some ys) c e = rw c (p.took ys e)
+
+-- the same text, written in another way
+module _ {T E : Type 0} (r : Result T E) (text text' : List ℕ → List ℕ) (same : (xs : List ℕ) → text xs ≡ text' xs) (known left old new : Option (List ℕ)) where
+  pub printed_as : OnOk r (Printed text known left old new) → OnOk r (Printed text' known left old new)
+  printed_as = by r
+    where
+      by : (r : Result T E) → OnOk r (Printed text known left old new) → OnOk r (Printed text' known left old new)
+      by (Err e) p = tt
+      by (Ok x) p = record {
+        read = p.read;
+        ended = p.ended;
+        lost = p.lost;
+        last = p.last;
+        took = λ rest e. rw (← same (p.read ++ rest)) (p.took rest e);
+      }
+
+  pub begun_as : OnErr r (PrintedFront text known left old new) → OnErr r (PrintedFront text' known left old new)
+  begun_as = by r
+    where
+      by : (r : Result T E) → OnErr r (PrintedFront text known left old new) → OnErr r (PrintedFront text' known left old new)
+      by (Ok x) p = tt
+      by (Err e) p = record {
+        read = p.read;
+        ended = p.ended;
+        lost = p.lost;
+        last = p.last;
+        took = λ rest e. rw (← same (p.read ++ rest)) (p.took rest e);
+      }

@@ -1,9 +1,7 @@
 pub mod LinesLaws
-pub mod HoldsLaws
-pub mod TakingLaws
+pub mod KnownLaws
+pub mod ShowingLaws
 pub mod HandingLaws
 pub mod FillingLaws
-pub mod ReadingLaws
-pub mod WaitingLaws
-pub mod AnsweringLaws
-pub mod SendingLaws
+pub mod RunningLaws
+pub mod SpeakingLaws

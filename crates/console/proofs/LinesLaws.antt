@@ -1,21 +1,13 @@
--- Laws of lines: characters with no LF are one line; and the blocks of an input, one after another. Assumes nothing.
-use mathlib.Core.Path.{◌≡◌, refl, sym, ap, ◌∙◌}
+-- Laws of lines: characters with no LF are one line. Assumes nothing.
+use mathlib.Core.Path.{◌≡◌, refl, ap, ◌∙◌}
 use mathlib.Core.Bool.{Bool, true, false}
-use mathlib.Core.List.{List, [], ◌∷◌, ◌++◌, append_assoc, append-nil}
+use mathlib.Core.List.{List, [], ◌∷◌, ◌++◌}
 use Prim.Native.Nat.{ℕ}
 use lib.Dec.{eqb}
 use borrow.Author.Tests.{ne_eqb, eqb-true, eqb-false}
 use Rattle.text.specs.Lines.{before_end}
 use Rattle.text.proofs.LineLaws.{end_other, end_lf}
-use Rattle.console.specs.Lines.{onto, lines_of, Free, joined}
-
--- ---- blocks
-pub joined_append : (cs bs : List (List ℕ)) → joined (cs ++ bs) ≡ joined cs ++ joined bs
-joined_append [] bs = refl
-joined_append (a ∷ cs) bs = ap (λ (t : List ℕ). a ++ t) (joined_append cs bs) ∙ sym (append_assoc a (joined cs) (joined bs))
-
-pub joined_more : (cs : List (List ℕ)) (b : List ℕ) → joined (cs ++ (b ∷ [])) ≡ joined cs ++ b
-joined_more cs b = joined_append cs (b ∷ []) ∙ ap (λ (t : List ℕ). joined cs ++ t) (append-nil b)
+use Rattle.console.specs.Lines.{onto, lines_of, Free}
 
 -- ---- characters with no LF
 pub free_append : (xs ys : List ℕ) → Free xs → Free ys → Free (xs ++ ys)

@@ -1,33 +1,21 @@
--- Text that is handed on from the start of the output, so that there is room for one more text, and what the writer took
--- of it. Assumes nothing.
-use Rattle.std.specs.Prelude.{◌≡◌, List, ◌++◌, ℕ, ◌+◌, ◌≤◌, length, take}
-use Rattle.std.specs.Io.KnownBytes.{Keeps, Appends}
+-- Text that a writer takes, whole or a beginning of it, and the room that is left. Assumes nothing.
+use Rattle.std.specs.Prelude.{◌≡◌, Bool, true, List, [], ◌++◌, ℕ, ◌+◌, ◌≤◌, length}
+use Rattle.std.specs.Io.KnownBytes.{Appends, Consumes, IsAtEnd}
 use Rattle.std.specs.declared.option.Option.{Option}
-use Rattle.console.specs.declared.blocks.Place.{Place}
-use Rattle.console.specs.declared.blocks.Place.TheVariants.{At, Closed}
+use Rattle.text.specs.Texts.{with_piece}
 
--- `text` was handed on, and what is still in the output comes before `place`
-pub record Handed (out : List ℕ) (to place : ℕ) : Type 0 where
-  pub room : place + 2048 ≤ length out
-  pub text : List ℕ
-  pub rest : text ++ take place out ≡ take to out
+-- a text put on a page: whole, or not at all if it does not fit
+abbrev pub with_text : List ℕ → List ℕ → List ℕ
+with_text page text = with_piece 16384 page text
 
-abbrev pub Placed : List ℕ → ℕ → Place → Type 0
-Placed out to (At place) = Handed out to place
-Placed out to Closed = Unit
+-- the longest text for one line fits
+abbrev pub HasRoom : List ℕ → Type 0
+HasRoom page = length page + 2048 ≤ 16384
 
--- ---- what the writer took, in whatever pieces
--- the front of a page, and the rest is still there
+-- the writer took the front of a page, and the rest is still there
 pub record HandsOn (old new : Option (List ℕ)) (page page' : List ℕ) : Type 0 where
   pub front : List ℕ
   pub all : front ++ page' ≡ page
-  pub took : Appends old new front
-
--- the front of a page, and the next text there is still to be handed on
-pub record HandsFront (old new : Option (List ℕ)) (page next : List ℕ) : Type 0 where
-  pub front : List ℕ
-  pub rest : List ℕ
-  pub all : front ++ (next ++ rest) ≡ page
   pub took : Appends old new front
 
 -- a beginning of a text
@@ -37,7 +25,19 @@ pub record AppendsFront (old new : Option (List ℕ)) (text : List ℕ) : Type 0
   pub all : front ++ rest ≡ text
   pub took : Appends old new front
 
--- what came before a place in the output, or nothing
-abbrev pub HandsTo : Option (List ℕ) → Option (List ℕ) → List ℕ → ℕ → Place → Type 0
-HandsTo old new out to (At place) = HandsOn old new (take to out) (take place out)
-HandsTo old new out to Closed = Keeps old new
+-- ---- what is printed for an input: the bytes that the reader lost, and whatever may follow them; nothing does, if it came to its end
+-- THE PROMISE: the writer took all of it
+pub record Printed (text : List ℕ → List ℕ) (known left old new : Option (List ℕ)) : Type 0 where
+  pub read : List ℕ
+  pub ended : Bool
+  pub lost : Consumes known left read
+  pub last : ended ≡ true → IsAtEnd left
+  pub took : (rest : List ℕ) → (ended ≡ true → rest ≡ []) → Appends old new (text (read ++ rest))
+
+-- WHAT AN ERROR LEAVES: the writer took a beginning of it, and no other byte
+pub record PrintedFront (text : List ℕ → List ℕ) (known left old new : Option (List ℕ)) : Type 0 where
+  pub read : List ℕ
+  pub ended : Bool
+  pub lost : Consumes known left read
+  pub last : ended ≡ true → IsAtEnd left
+  pub took : (rest : List ℕ) → (ended ≡ true → rest ≡ []) → AppendsFront old new (text (read ++ rest))

@@ -1,7 +1,6 @@
 pub mod Lines
 pub mod Programs
-pub mod Cursors
+pub mod Showing
+pub mod Speaking
 pub mod Handing
 pub mod Blocks
-pub mod Reading
-pub mod Answering

@@ -1,5 +1,5 @@
 -- The lines of an input: each ends with LF, and the last may lack it. Assumes nothing.
-use Rattle.std.specs.Prelude.{◌≡◌, List, [], ◌∷◌, ◌++◌, ℕ, eqb}
+use Rattle.std.specs.Prelude.{◌≡◌, List, [], ◌∷◌, ℕ, eqb}
 use Rattle.base.specs.Choice.{choose}
 
 -- a character in front of the first line
@@ -15,8 +15,3 @@ lines_of (c ∷ cs) = choose (eqb c 0x0A) ([] ∷ lines_of cs) (onto c (lines_of
 abbrev pub Free : List ℕ → Type 0
 Free [] = Unit
 Free (c ∷ cs) = (c ≡ 0x0A → ⊥) × Free cs
-
--- blocks, one after another
-abbrev pub joined : List (List ℕ) → List ℕ
-joined [] = []
-joined (b ∷ bs) = b ++ joined bs

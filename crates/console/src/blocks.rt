@@ -1,34 +1,19 @@
-// Blocks of standard input, and text to standard output.
-ghost use Rattle.std.specs.Prelude.{◌≡◌, true, false, List, ℕ, ◌≤◌, length, take, IfOk, OnOk, OnErr};
-ghost use Rattle.std.specs.Io.{ReadsAtMost, WritesAtMost};
-ghost use Rattle.std.specs.Io.KnownBytes.{Keeps, Appends, ReadConsumes, WriteAppends};
-ghost use Rattle.text.specs.Putting.{put_at, place_after};
-ghost use Rattle.console.specs.Handing.{Placed, HandsTo, AppendsFront};
+// Blocks of standard input, and the lines in them.
+ghost use Rattle.std.specs.Prelude.{◌≡◌, ◌≤◌, ℕ, List, ◌++◌, [], take, drop, IfOk, OnErr, MatchResult, IsFalse};
+ghost use Rattle.std.specs.Io.{ReadsAtMost};
+ghost use Rattle.std.specs.Io.KnownBytes.{Keeps, Consumes, IsAtEnd, ReadConsumes};
+ghost use Rattle.text.specs.Lines.{before_end, has_end, after_end};
 ghost use Rattle.console.specs.Blocks.{FullRead, LostRead};
+ghost use Rattle.console.specs.Showing.{shown};
 
+use crate::lines::Line;
 use std::io;
-use std::io::{ErrorKind, Read, Write};
-use text::putting::put_text;
-
-// Room for the longest text that a program prints for one line.
-pub const MOST: usize = 2048;
-
-// An empty buffer for a block of the input.
-pub fn no_input() -> [u8; 65536]
-    ensures { 65536 ≡ length result }
-{
-    [0; 65536]
-}
-
-// An empty buffer for the text of many lines, before it is written.
-pub fn no_output() -> [u8; 16384]
-    ensures { 16384 ≡ length result }
-{
-    [0; 16384]
-}
+use std::io::{ErrorKind, Read};
+use std::marker::Model;
+use text::lines::line_end;
 
 // Reads the next block of the input to the start of a buffer; returns its length, 0 at the end of the input. An
-// interrupted read is tried again.
+// interrupted read is tried again, in counted turns, since a proved loop has to end.
 pub fn read_block<R: Read>(input: &mut R, block: &mut [u8]) -> io::Result<usize>
     ensures bound { ReadsAtMost result block.new }
     ensures bytes { ReadConsumes (R.remaining input.old) (R.remaining input.new) result block.new }
@@ -46,7 +31,8 @@ pub fn read_block<R: Read>(input: &mut R, block: &mut [u8]) -> io::Result<usize>
     Err(io::Error::other("too many reads"))
 }
 
-// Reads until a buffer is full or the input ends; returns how many bytes were put at its start.
+// Reads until a buffer is full or the input ends; returns how many bytes were put at its start. A loop over reads, since std's
+// `read_exact` does not say what an error leaves.
 pub fn read_full<R: Read>(input: &mut R, buf: &mut [u8]) -> io::Result<usize>
     ensures bound { ReadsAtMost result buf.new }
     ensures ok { IfOk result (λ n. FullRead (R.remaining input.old) (R.remaining input.new) buf.new n) }
@@ -63,93 +49,66 @@ pub fn read_full<R: Read>(input: &mut R, buf: &mut [u8]) -> io::Result<usize>
     Ok(done)
 }
 
-// Writes some of a text: none of it if it was interrupted.
-fn write_some<W: Write>(output: &mut W, text: &[u8]) -> io::Result<usize>
-    ensures bound { WritesAtMost result text.now }
-    ensures bytes { WriteAppends (W.contents output.old) (W.contents output.new) result text.now }
-{
-    match output.write(text) {
-        Ok(0) => Err(io::Error::new(ErrorKind::WriteZero, "nothing was written")),
-        Ok(n) => Ok(n),
-        Err(e) => {
-            if e.kind() == ErrorKind::Interrupted {
-                return Ok(0);
+// The block that was read last: what is left of it.
+#[derive(Drop)]
+pub struct Block {
+    bytes: [u8; 65536],
+    at: usize,
+    end: usize,
+}
+
+impl Model for Block {
+    ghost Value = { List ℕ };
+
+    ghost view = { λ s. drop s.at (take s.end s.bytes) };
+
+    ghost invariant = { λ s. (s.at ≤ s.end) × (s.end ≤ 65536) };
+}
+
+impl Block {
+    // Before the first block.
+    pub fn new() -> Self
+        ensures { result ≡ [] }
+    {
+        Block {
+            bytes: [0; 65536],
+            at: 0,
+            end: 0,
+        }
+    }
+
+    // Moves what is left of a line to the line; returns whether its end was there.
+    pub fn take_line(&mut self, line: &mut Line) -> bool
+        ensures found { result ≡ has_end self.old }
+        ensures line { line.new ≡ shown (line.old ++ before_end self.old) }
+        ensures left { self.new ≡ after_end self.old }
+    {
+        let left = &self.bytes[self.at..self.end];
+        match line_end(left) {
+            Some(n) => {
+                line.fill(&left[..n]);
+                self.at += n + 1;
+                true
             }
-            Err(e)
+            None => {
+                line.fill(left);
+                self.at = self.end;
+                false
+            }
         }
     }
-}
 
-// Writes a text, in whatever pieces.
-fn write_text<W: Write>(output: &mut W, text: &[u8]) -> io::Result<()>
-    ensures ok { OnOk result (Appends (W.contents output.old) (W.contents output.new) text.now) }
-    ensures err { OnErr result (AppendsFront (W.contents output.old) (W.contents output.new) text.now) }
-{
-    let mut rest = text;
-    for _ in 0..u64::MAX {
-        if rest.is_empty() {
-            return Ok(());
-        }
-        let n = write_some(output, rest)?;
-        rest = &rest[n..];
+    // Reads another block, in place of the last; returns whether there was one.
+    pub fn fill<R: Read>(&mut self, input: &mut R) -> io::Result<bool>
+        ensures ok { IfOk result (λ more. Consumes (R.remaining input.old) (R.remaining input.new) self.new
+            × (IsFalse more → IsAtEnd (R.remaining input.new) × (self.new ≡ []))) }
+        ensures err { OnErr result (Keeps (R.remaining input.old) (R.remaining input.new)) }
+        ensures none { OnErr result (self.new ≡ []) }
+    {
+        self.at = 0;
+        self.end = 0;
+        let n = read_block(input, &mut self.bytes)?;
+        self.end = n;
+        Ok(n > 0)
     }
-    Err(io::Error::other("too many writes"))
-}
-
-// Writes the first `n` bytes of the output; returns whether they were written. If not there are fewer in it, and none were.
-pub fn write_first<W: Write>(output: &mut W, out: &[u8], n: usize) -> io::Result<bool>
-    ensures all { IfOk result (λ written. written ≡ true → Appends (W.contents output.old) (W.contents output.new) (take n out.now)) }
-    ensures none { IfOk result (λ written. written ≡ false → Keeps (W.contents output.old) (W.contents output.new)) }
-    ensures err { OnErr result (AppendsFront (W.contents output.old) (W.contents output.new) (take n out.now)) }
-{
-    if out.len() < n {
-        return Ok(false);
-    }
-    write_text(output, &out[..n])?;
-    Ok(true)
-}
-
-// How many bytes a slice of `len` can give when `n` are asked for.
-#[tactic(auto, using(crate::proofs::HandingLaws::all_of))]
-pub fn least(len: usize, n: usize) -> usize
-    ensures { (result ≤ len) × ((s : List ℕ) → length s ≡ len → take result s ≡ take n s) }
-{
-    if len < n {
-        return len;
-    }
-    n
-}
-
-// Puts the first `n` bytes of a text at index `at` of the output: all of them, or none if there is no room.
-pub fn put_first(out: &mut [u8], at: usize, text: &[u8], n: usize) -> usize
-    ensures { (result ≡ place_after (length out.old) at (take n text.now)) × (out.new ≡ put_at out.old at (take n text.now)) }
-{
-    let k = least(text.len(), n);
-    put_text(out, at, &text[..k])
-}
-
-// Where the next text goes, or that there is no room for it.
-#[derive(Clone, Copy)]
-pub enum Place {
-    At(usize),
-    Closed,
-}
-
-// Makes room for one more text from index `to`; if there is too little, what is in the output is written first.
-#[tactic(auto, using(crate::proofs::HandingLaws::handed_none, crate::proofs::HandingLaws::handed_all))]
-pub fn make_room<W: Write>(output: &mut W, out: &[u8], to: usize) -> io::Result<Place>
-    ensures ok { IfOk result (λ place. Placed out.now to place) }
-    ensures handed { IfOk result (λ place. HandsTo (W.contents output.old) (W.contents output.new) out.now to place) }
-    ensures err { OnErr result (AppendsFront (W.contents output.old) (W.contents output.new) (take to out.now)) }
-{
-    if out.len() < MOST {
-        return Ok(Place::Closed);
-    }
-    if to <= out.len() - MOST {
-        return Ok(Place::At(to));
-    }
-    if write_first(output, out, to)? {
-        return Ok(Place::At(0));
-    }
-    Ok(Place::Closed)
 }

@@ -2,5 +2,7 @@
 // one by one, and writes text.
 #![tactic(auto)]
 
+pub mod answering;
 pub mod blocks;
 pub mod lines;
+pub mod pages;

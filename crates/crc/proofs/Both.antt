@@ -4,8 +4,7 @@ use mathlib.Core.List.{List, ◌∷◌, ◌++◌, zip_with}
 use Prim.Native.Nat.{ℕ, ◌*◌, ◌/◌, ◌%◌, ◌^◌, ◌<◌}
 use lib.Bits.{bit_xor}
 use lib.ListN.{length}
-use Rattle.crc.specs.declared.Poly.{Poly}
-use Rattle.crc.specs.Crc.{poly_of, crc_start, crc_byte, crc_from, crc_of, from_append}
+use Rattle.crc.specs.Crc.{Poly, poly_of, crc_start, crc_byte, crc_from, crc_of, from_append}
 use Rattle.crc.proofs.Bound.{poly_lt, from_lt}
 use Rattle.crc.proofs.Linear.{from_linear}
 use Rattle.crc.proofs.Table.{byte_table}

@@ -6,9 +6,7 @@ use native.Mathlib.Nat.{mod-lt}
 use lib.Dec.{lit<}
 use lib.Bits.{bit_xor, xor_lt}
 use Rattle.base.proofs.Xor.{choose_lt}
-use Rattle.crc.specs.declared.Poly.{Poly}
-use Rattle.crc.specs.declared.Poly.TheVariants.{Fcs, Safety}
-use Rattle.crc.specs.Crc.{poly_of, crc_start, top_bit, crc_bit, crc_bits, crc_byte, crc_from, crc_of}
+use Rattle.crc.specs.Crc.{Poly, Fcs, Safety, poly_of, crc_start, top_bit, crc_bit, crc_bits, crc_byte, crc_from, crc_of}
 use Rattle.crc.proofs.Linear.{top_lt}
 
 module _ (p : ℕ) (terms : p < 2 ^ 16) where

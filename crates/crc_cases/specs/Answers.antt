@@ -1,8 +1,7 @@
 -- The answer to a case of CRCs: 0 asks for the FCS of the bytes, 1 for their safety CRC. Assumes nothing.
 use Rattle.std.specs.Prelude.{List, ℕ}
 use Rattle.base.specs.Bytes.{bytes_of}
-use Rattle.crc.specs.Crc.{crc_of}
-use Rattle.crc.specs.declared.Poly.TheVariants.{Fcs, Safety}
+use Rattle.crc.specs.Crc.{Fcs, Safety, crc_of}
 use Rattle.cases.specs.Cases.{by_operation}
 
 unfoldable pub crc_answers : ℕ → List ℕ → List ℕ

@@ -17,8 +17,8 @@ of_request_lem r n =
 
 of_body : (port : ℕ) (body : List ℕ) (room dest src cyc seq : ℕ) → Asks body dest src cyc seq → (n : ℕ) → MeansAsked src seq (event_of (frame port body room) n)
 unfolding event_of
-of_body port body room dest src cyc seq (to_read addr datl add e) n = rw e (of_request_lem _ n)
-of_body port body room dest src cyc seq (to_write addr datl add e) n = rw e (of_request_lem _ n)
+of_body port body room dest src cyc seq (to_read addr datl add app e) n = rw e (of_request_lem _ n)
+of_body port body room dest src cyc seq (to_write addr datl add app e) n = rw e (of_request_lem _ n)
 
 pub means_asked : (call : Call) (n src seq : ℕ) → Brings call src seq → MeansAsked src seq (event_of call n)
 means_asked call n src seq b =

@@ -7,25 +7,23 @@ use borrow.Author.Tests.{ltb-true}
 use lib.ListN.{length}
 use lib.Seq.{length-sets}
 use Rattle.base.proofs.Choosing.{never, choose_true, and_left, and_right}
+use Rattle.std.specs.Prelude.{Ok}
 use Rattle.wire.specs.Body.{read_body}
-use Rattle.wire.specs.declared.Verdict.TheVariants as verdict
 use Rattle.frame_kinds.specs.Kinds.{data_in}
 use Rattle.frame_writing.specs.Writing.{is24, fields_fit, fits}
 use Rattle.frame_kinds.specs.declared.kinds.Frame.{Frame}
 use Rattle.frame_kinds.specs.declared.kinds.Frame.TheVariants.{SidAssignment}
-use Rattle.frame_forms.specs.declared.Read.TheVariants.{Valid}
-use Rattle.frame_reading.proofs.Receiving.{app_in}
 use Rattle.rules.specs.Calls.{Call, tick, frame, act}
+use Rattle.rules.specs.FrameCall.{agent_read}
 use Rattle.rules.specs.Good.{Good, BytesCall}
 use Rattle.rules.specs.Inputs.{with_inputs}
 use Rattle.rules.specs.Refusals.{is_sync, read_of, reads_sync, skips_by, skips_read}
 use Rattle.rules.specs.Registers.{inputs_at, tid_at}
-use Rattle.rules.specs.Replies.{Outcome}
+use Rattle.rules.specs.Replies.{Deed, Outcome}
 use Rattle.rules.specs.Requests.{distance, reads, writes}
 use Rattle.rules.specs.State.{running, store}
 use Rattle.rules.specs.Writes.{span_of}
 use Rattle.rules.specs.declared.Agent.{Agent}
-use Rattle.rules.specs.declared.Deed.{Deed}
 use Rattle.rules.proofs.Cases.{is_hosts, Accepts, heard, read, wrote, renamed, first, again, later, KindCase, refuses, fell, missed, outside, accepts, FrameCase, unread, read_as, CallCase, unsoundly, hosts, ticks, frames, call_case}
 use Rattle.demand3.specs.Events.{event_of}
 use Rattle.demand3.specs.Numbers.{is_accepted, accepted, outside_rules, outside_window}
@@ -77,10 +75,10 @@ module _ {a : Agent} (good : Good a) where
     kind_did u c (accepts e) = accepted_did accepted refl c e
 
     pub frame_did : {body : List ℕ} {d : Deed} → Unheeded call
-        → ((f : Frame) → (read_body body).verdict ≡ verdict.Valid → read_of body ≡ Valid f → Carries call f (data_in f (app_in (read_body body))))
+        → ((addr : ℕ) (s : List ℕ) (f : Frame) → read_body body ≡ Ok (addr, s) → agent_read addr s ≡ Ok f → Carries call f (data_in f s))
         → FrameCase a body d → Shown a call d
     frame_did {body = body} u c (unread n h) = refused u (reads_sync (read_of body) && running a) (skips_read a (read_of body)) n h
-    frame_did u c (read_as f v e k) = kind_did u (c f v e) k
+    frame_did u c (read_as f v e k) = kind_did u (c _ _ f v e) k
 
   -- ---- the calls
   call_did : {call : Call} {o : Outcome} → BytesCall call → CallCase a call o → Step a (told call) o
@@ -91,7 +89,7 @@ module _ {a : Agent} (good : Good a) where
       tick_did a (with_inputs xs a) (apart_view inputs_at xs a (apart_inputs (length xs))) (told (tick xs)) accepted refl
       (length-sets a.regs inputs_at xs ∙ good.registers)
   call_did b (frames {port = port} {room = room} {body = body} {d = d} c) =
-      after_reply d (frame_did (unheeded (frame port body room)) (λ f v e. carries port body room f b v e) c)
+      after_reply d (frame_did (unheeded (frame port body room)) (λ addr s f v e. carries port body room addr s f b v e) c)
 
 -- ---- every call on a good agent is one of the effects
 pub step_did : (a : Agent) (call : Call) → Good a → BytesCall call → Step a (told call) (act a call)

@@ -9,8 +9,7 @@ use borrow.Author.Tests.{leb-true, leb-false}
 use lib.Dec.{leb}
 use lib.ListN.{length, get_or, length-append}
 use Rattle.base.specs.Bytes.{bytes_of}
-use Rattle.crc.specs.Crc.{crc_of}
-use Rattle.crc.specs.declared.Poly.TheVariants.{Safety}
+use Rattle.crc.specs.Crc.{Safety, crc_of}
 use Rattle.fields.specs.Fields.{laid}
 use Rattle.laying.specs.Laying.{body_of, body_with}
 use Rattle.stuffing.specs.Stuffing.{stuff, stuff_byte}

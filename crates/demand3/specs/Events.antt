@@ -1,14 +1,11 @@
 -- What a call and its answer amount to, from the call and the answer alone: a body is read by the reader of frames, and
 -- the answer says whether it was accepted. Assumes nothing.
-use Rattle.std.specs.Prelude.{Bool, false, List, ℕ, eqb, take}
+use Rattle.std.specs.Prelude.{Bool, false, List, ℕ, eqb, Ok, Err}
 use Rattle.base.specs.Choice.{choose}
 use Rattle.frame_kinds.specs.Kinds.{data_in}
-use Rattle.frame_reading.specs.Reading.{read_frame}
+use Rattle.frame_reading.specs.Reading.{ReadFrame, read_frame}
 use Rattle.frame_kinds.specs.declared.kinds.Frame.{Frame}
 use Rattle.frame_kinds.specs.declared.kinds.Frame.TheVariants.{Sync, SafeRead, SafeWrite, PlainRead, PlainWrite, SafeResponse, PlainSyncResponse, PlainResponse, TidAssignment, SidAssignment, SidAssignment4, Acknowledgement, Invariants}
-use Rattle.frame_reading.specs.declared.Reading.{Reading}
-use Rattle.frame_reading.specs.declared.Reading.TheVariants as reading
-use Rattle.frame_reading.specs.declared.Received.{Received}
 use Rattle.rules.specs.Calls.{Call, tick, frame}
 use Rattle.rules.specs.Requests.{Ask, reads, writes}
 use Rattle.demand3.specs.Numbers.{is_accepted, outside_rules, outside_window, writes_release, writes_fallback, writes_within_outputs}
@@ -57,19 +54,9 @@ of_frame (SidAssignment4 src sec mac sid sid2 src2) xs n = nothing
 of_frame (Acknowledgement src dst sec mac) xs n = nothing
 of_frame (Invariants dest src cyc seq config logic) xs n = nothing
 
-abbrev pub of_reading : Reading → List ℕ → ℕ → Event
-of_reading (reading.Valid a f) s n = of_frame f (data_in f s) n
-of_reading reading.Length s n = nothing
-of_reading reading.Stuffing s n = nothing
-of_reading reading.Size s n = nothing
-of_reading reading.Fcs s n = nothing
-of_reading reading.Reserved s n = nothing
-of_reading reading.Kind s n = nothing
-of_reading reading.Form s n = nothing
-of_reading reading.Check s n = nothing
-
-abbrev pub of_received : Received → ℕ → Event
-of_received r n = of_reading r.reading (take r.len r.bytes) n
+abbrev pub of_received : ReadFrame → ℕ → Event
+of_received (Ok (a, f, s)) n = of_frame f (data_in f s) n
+of_received (Err e) n = nothing
 
 -- a tick is a tick call answered 0; every tick counts
 unfoldable pub event_of : Call → ℕ → Event

@@ -1,10 +1,9 @@
 -- Register 26h: why the module last passed from RUN to fallback, told from calls, answers and what may be seen. One theorem beside
 -- demand 3, over the same histories. Assumes nothing.
-use Rattle.std.specs.Prelude.{true, List, ◌≡◌, ℕ, ◌*◌}
+use Rattle.std.specs.Prelude.{true, List, ◌≡◌, ℕ, ◌*◌, Ok}
 use Rattle.std.proofs.Math.Option.{some}
 use Rattle.frame_reading.specs.Reading.{read_frame}
 use Rattle.frame_kinds.specs.declared.kinds.Frame.TheVariants.{Sync}
-use Rattle.frame_reading.specs.declared.Reading.TheVariants.{Valid}
 use Rattle.rules.specs.Calls.{Call, frame}
 use Rattle.rules.specs.PowerUp.{power_up}
 use Rattle.rules.specs.declared.Fixed.{Fixed}
@@ -25,7 +24,8 @@ pub record WrongSync (call : Call) (answer : ℕ) : Type 0 where
   pub src : ℕ
   pub cyc : ℕ
   pub called : call ≡ frame port body room
-  pub reads : (read_frame body).reading ≡ Valid address (Sync src cyc)
+  pub app : List ℕ
+  pub reads : read_frame body ≡ Ok (address, Sync src cyc, app)
   pub refused : answer ≡ cycle
 
 -- an accepted order: AAh to 17h

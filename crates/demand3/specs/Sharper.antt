@@ -1,11 +1,10 @@
 -- What demand 3 means for the concentrators on the ring: a request is taken only if it is fresh; one from a
 -- concentrator that lost the ring, a copy of one already taken, or one whose number was skipped, changes neither an output
 -- nor the mode. Assumes nothing.
-use Rattle.std.specs.Prelude.{true, List, ◌∷◌, ◌≡◌, ℕ, ◌<◌}
+use Rattle.std.specs.Prelude.{true, List, ◌∷◌, ◌≡◌, ℕ, ◌<◌, Ok}
 use Rattle.std.proofs.Math.Option.{some}
 use Rattle.frame_reading.specs.Reading.{read_frame}
 use Rattle.frame_kinds.specs.declared.kinds.Frame.TheVariants.{SafeRead, SafeWrite}
-use Rattle.frame_reading.specs.declared.Reading.TheVariants.{Valid}
 use Rattle.rules.specs.Calls.{Call, frame}
 use Rattle.rules.specs.PowerUp.{power_up}
 use Rattle.rules.specs.declared.Fixed.{Fixed}
@@ -33,8 +32,8 @@ pub record Fresh (h : History) (r : Request) : Type 0 where
 
 -- the body reads as a safe request with these fields
 pub data Asks (body : List ℕ) (dest src cyc seq : ℕ) : Type 0 where
-  to_read : (address datl add : ℕ) → (read_frame body).reading ≡ Valid address (SafeRead dest src cyc seq datl add) → Asks body dest src cyc seq
-  to_write : (address datl add : ℕ) → (read_frame body).reading ≡ Valid address (SafeWrite dest src cyc seq datl add) → Asks body dest src cyc seq
+  to_read : (address datl add : ℕ) (app : List ℕ) → read_frame body ≡ Ok (address, SafeRead dest src cyc seq datl add, app) → Asks body dest src cyc seq
+  to_write : (address datl add : ℕ) (app : List ℕ) → read_frame body ≡ Ok (address, SafeWrite dest src cyc seq datl add, app) → Asks body dest src cyc seq
 
 -- a frame call, on any port and with any reply buffer, whose body is such a request
 pub record Brings (call : Call) (src seq : ℕ) : Type 0 where

@@ -1,8 +1,6 @@
 -- Both CRCs of the bus detect two flipped bits, each over as many bits as was walked. Assumes nothing.
 use Prim.Native.Nat.{◌-◌}
-use Rattle.crc.specs.Crc.{poly_of, crc_start, crc_of}
-use Rattle.crc.specs.declared.Poly.{Poly}
-use Rattle.crc.specs.declared.Poly.TheVariants.{Fcs, Safety}
+use Rattle.crc.specs.Crc.{poly_of, crc_start, crc_of, Poly, Fcs, Safety}
 use Rattle.burst.proofs.Both.{with_constant}
 use Rattle.distance.specs.Promise.{SeesTwo, bits_seen}
 use Rattle.distance.proofs.Powers.{no_return_lem}

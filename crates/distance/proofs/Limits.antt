@@ -11,8 +11,7 @@ use lib.Count.{ones, ones_in}
 use lib.ListN.{length, replicate, length-append, length-replicate}
 use Rattle.base.specs.Bytes.{Bytes}
 use Rattle.base.proofs.Bytes.{bytes_cons, bytes_single, bytes_append, bytes_replicate}
-use Rattle.crc.specs.Crc.{poly_of, crc_start, top_bit, crc_bit, crc_bits, crc_byte, crc_from, crc_of}
-use Rattle.crc.specs.declared.Poly.TheVariants.{Fcs, Safety}
+use Rattle.crc.specs.Crc.{poly_of, crc_start, top_bit, crc_bit, crc_bits, crc_byte, crc_from, crc_of, Fcs, Safety}
 use Rattle.crc.proofs.Linear.{from_linear, bit_low, bits_low}
 use Rattle.crc.proofs.Bound.{bits_lt, poly_lt}
 use Rattle.crc.proofs.Lossless.{bit_inj}

@@ -6,9 +6,7 @@ use borrow.Author.Tests.{eq-eqb}
 use lib.Dec.{eqb}
 use Rattle.base.specs.Choice.{choose}
 use Rattle.base.proofs.Choosing.{never}
-use Rattle.crc.specs.Crc.{poly_of, top_bit, crc_bit}
-use Rattle.crc.specs.declared.Poly.{Poly}
-use Rattle.crc.specs.declared.Poly.TheVariants.{Fcs, Safety}
+use Rattle.crc.specs.Crc.{poly_of, top_bit, crc_bit, Poly, Fcs, Safety}
 use Rattle.distance.specs.Powers.{away_for, no_return}
 use Rattle.distance.specs.Promise.{bits_seen}
 

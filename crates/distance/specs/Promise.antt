@@ -1,9 +1,7 @@
 -- Two flipped bits: which 16-bit CRCs detect them, and over how many bits; the two of the bus; and where that ends. Assumes nothing.
 use Rattle.std.specs.Prelude.{◌≡◌, true, List, ℕ, ◌+◌, ◌*◌, ◌≤◌, length}
 use Rattle.base.specs.Bytes.{Bytes}
-use Rattle.crc.specs.Crc.{crc_bits, crc_from, crc_of}
-use Rattle.crc.specs.declared.Poly.{Poly}
-use Rattle.crc.specs.declared.Poly.TheVariants.{Fcs, Safety}
+use Rattle.crc.specs.Crc.{crc_bits, crc_from, crc_of, Poly, Fcs, Safety}
 use Rattle.burst.specs.Damage.{flips}
 use Rattle.burst.specs.Promise.{WithConstant, Checked}
 use Rattle.distance.specs.Powers.{no_return}

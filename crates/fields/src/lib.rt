@@ -13,118 +13,103 @@ pub struct Reader<'a> {
     pub at: usize,
 }
 
-// The byte at index `at` + `off`, without computing a sum that could overflow.
-fn byte_behind(s: &[u8], at: usize, off: usize) -> u8
-    ensures { result ≡ get_or s.now (at + off) 0 }
-{
-    if s.len() <= at {
-        return 0;
+impl<'a> Reader<'a> {
+    // A reader at the start of the data.
+    pub fn new(src: &'a [u8]) -> Self
+        ensures src { result.src ≡ src.entry }
+        ensures at { result.at ≡ 0 }
+    {
+        Reader { src, at: 0 }
     }
-    if s.len() - at <= off {
-        return 0;
+
+    // The same reader at another index: a field's position in the tables.
+    pub fn at(self, at: usize) -> Self
+        ensures src { result.src ≡ self.entry.src }
+        ensures at { result.at ≡ at }
+    {
+        Reader { src: self.src, at }
     }
-    s[at + off]
-}
 
-// The core of the reader: the number in `width` bytes, at most 8, starting at index `at`.
-#[tactic(auto, using(base::proofs::Numbers::number_more, base::proofs::Numbers::more_below, crate::proofs::Widths::width_small, crate::proofs::Widths::width_large, crate::proofs::Widths::width_most), unfolding(base::specs::Bytes::number_at))]
-fn number_at(s: &[u8], at: usize, width: usize) -> u64
-    ensures { (result ≡ number_at s.now at (width8 width)) × (result < 256 ^ width8 width) }
-{
-    let w = if width < 8 { width } else { 8 };
-    let mut n: u64 = 0;
-    let mut i: usize = 0;
-    while i < w {
-        let b = byte_behind(s, at, i) as u64;
-        n = n * 256 + b;
-        i += 1;
+    // The data from the index on.
+    fn rest(self) -> &'a [u8]
+        ensures { result.now ≡ drop self.entry.at self.entry.src.now }
+    {
+        self.src.get(self.at..).unwrap_or(&[])
     }
-    n
-}
 
-// `len` bytes starting at index `at`, or as many as there are.
-fn part_at(s: &[u8], at: usize, len: usize) -> &[u8]
-    ensures { result.now ≡ take len (drop at s.now) }
-{
-    if s.len() <= at {
-        return &s[..0];
+    // The core of the reader: the byte `off` after the index.
+    fn byte(self, off: usize) -> u8
+        ensures { result ≡ get_or self.entry.src.now (self.entry.at + off) 0 }
+    {
+        self.rest().get(off).copied().unwrap_or(0)
     }
-    if s.len() - at <= len {
-        return &s[at..];
+
+    // `len` bytes, or as many as there are.
+    pub fn bytes(self, len: usize) -> &'a [u8]
+        ensures { result.now ≡ take len (drop self.entry.at self.entry.src.now) }
+    {
+        let rest = self.rest();
+        rest.get(..len).unwrap_or(rest)
     }
-    let to = at + len;
-    &s[at..to]
-}
 
-// A reader at the start of the data.
-pub fn open<'a>(src: &'a [u8]) -> Reader<'a>
-    ensures { (result.src ≡ src.entry) × (result.at ≡ 0) }
-{
-    Reader { src, at: 0 }
-}
+    // The number in `width` bytes, at most 8.
+    #[tactic(auto, using(base::proofs::Numbers::number_more, base::proofs::Numbers::more_below, crate::proofs::Widths::width_small, crate::proofs::Widths::width_large, crate::proofs::Widths::width_most), unfolding(base::specs::Bytes::number_at))]
+    pub fn number(self, width: usize) -> u64
+        ensures number { result ≡ number_at self.entry.src.now self.entry.at (width8 width) }
+        ensures below { result < 256 ^ width8 width }
+    {
+        let w = if width < 8 { width } else { 8 };
+        let mut n: u64 = 0;
+        for off in 0..w {
+            let b = u64::from(self.byte(off));
+            n = n * 256 + b;
+        }
+        n
+    }
 
-// The same reader at another index.
-pub fn moved<'a>(r: Reader<'a>, at: usize) -> Reader<'a>
-    ensures { (result.src ≡ r.entry.src) × (result.at ≡ at) }
-{
-    Reader { src: r.src, at }
-}
+    // The same for each width in use.
+    #[tactic(auto, unfolding(base::specs::Bytes::number_at))]
+    pub fn u8(self) -> u8
+        ensures { result ≡ number_at self.entry.src.now self.entry.at 1 }
+    {
+        self.byte(0)
+    }
 
-// The number in `width` bytes, at most 8, at the reader's index.
-pub fn number<'a>(r: Reader<'a>, width: usize) -> u64
-    ensures { (result ≡ number_at r.entry.src.now r.entry.at (width8 width)) × (result < 256 ^ width8 width) }
-{
-    number_at(r.src, r.at, width)
-}
+    #[tactic(auto, unfolding(base::specs::Bytes::number_at))]
+    pub fn u16(self) -> u16
+        ensures { result ≡ number_at self.entry.src.now self.entry.at 2 }
+    {
+        u16::from_be_bytes([self.byte(0), self.byte(1)])
+    }
 
-// `len` bytes at the reader's index, or as many as there are.
-pub fn part<'a>(r: Reader<'a>, len: usize) -> &'a [u8]
-    ensures { result.now ≡ take len (drop r.entry.at r.entry.src.now) }
-{
-    part_at(r.src, r.at, len)
-}
+    #[tactic(auto, unfolding(base::specs::Bytes::number_at))]
+    pub fn u24(self) -> u32
+        ensures number { result ≡ number_at self.entry.src.now self.entry.at 3 }
+        ensures below { result < 2 ^ 24 }
+    {
+        u32::from_be_bytes([0, self.byte(0), self.byte(1), self.byte(2)])
+    }
 
-// A field read through the reader: position and length as in the tables. All other code uses this.
-pub fn field(s: &[u8], at: usize, width: usize) -> u64
-    ensures { (result ≡ number_at s.now at (width8 width)) × (result < 256 ^ width8 width) }
-{
-    number(moved(open(s), at), width)
-}
+    #[tactic(auto, unfolding(base::specs::Bytes::number_at))]
+    pub fn u32(self) -> u32
+        ensures { result ≡ number_at self.entry.src.now self.entry.at 4 }
+    {
+        u32::from_be_bytes([self.byte(0), self.byte(1), self.byte(2), self.byte(3)])
+    }
 
-// One function for each width in use.
-pub fn byte_field(s: &[u8], at: usize) -> u8
-    ensures { result ≡ number_at s.now at 1 }
-{
-    field(s, at, 1) as u8
-}
-
-pub fn word_field(s: &[u8], at: usize) -> u16
-    ensures { result ≡ number_at s.now at 2 }
-{
-    field(s, at, 2) as u16
-}
-
-pub fn sid_field(s: &[u8], at: usize) -> u32
-    ensures { (result ≡ number_at s.now at 3) × (result < 2 ^ 24) }
-{
-    field(s, at, 3) as u32
-}
-
-pub fn sec_field(s: &[u8], at: usize) -> u32
-    ensures { result ≡ number_at s.now at 4 }
-{
-    field(s, at, 4) as u32
-}
-
-pub fn id_field(s: &[u8], at: usize) -> u64
-    ensures { result ≡ number_at s.now at 8 }
-{
-    field(s, at, 8)
-}
-
-// The data bytes of a frame, read through the reader: `len` of them, or as many as there are.
-pub fn data_field(s: &[u8], at: usize, len: usize) -> &[u8]
-    ensures { result.now ≡ take len (drop at s.now) }
-{
-    part(moved(open(s), at), len)
+    #[tactic(auto, unfolding(base::specs::Bytes::number_at))]
+    pub fn u64(self) -> u64
+        ensures { result ≡ number_at self.entry.src.now self.entry.at 8 }
+    {
+        u64::from_be_bytes([
+            self.byte(0),
+            self.byte(1),
+            self.byte(2),
+            self.byte(3),
+            self.byte(4),
+            self.byte(5),
+            self.byte(6),
+            self.byte(7),
+        ])
+    }
 }

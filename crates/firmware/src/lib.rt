@@ -1,5 +1,5 @@
 // The firmware's interface: the firmware owns the agent, and each call alters it in place. Thin functions over the
-// calls by value; `firmware_c` exports them for C. Demand 3, with what 26h and the terminals show, is a clause of each contract:
+// calls of `agent`; `firmware_c` exports them for C. Demand 3, with what 26h and the terminals show, is a clause of each contract:
 // power-up begins a history, and each call continues every history that ended in the agent passed to it.
 #![tactic(auto)]
 
@@ -9,7 +9,9 @@ ghost use Rattle.rules.specs.Fixed.{fixed_by};
 ghost use Rattle.rules.specs.PowerUp.{power_up};
 ghost use Rattle.demand3.specs.Reached.{Begins, Continues};
 
-use agent_state::answers::ACCEPTED;
+use agent::calls::judge_tick;
+use agent_state::refusal::answer;
+use agent_ticks::on_tick::ticked;
 use rules::Agent;
 
 // Power-up with MAC, IID, VER and the limit of requests a cycle.
@@ -20,17 +22,19 @@ pub fn saturn_power_up(agent: &mut Agent, mac: u64, iid: u64, ver: u16, limit: u
     *agent = agent::power_up::power_up(mac, iid, ver, limit);
 }
 
-// One millisecond, with the 64 inputs. A call that is refused leaves the agent untouched.
+// One millisecond, with the 64 inputs. A call that is refused leaves the agent untouched. Document 01 names the form: the tick's
+// result, by value, is stored.
 pub fn saturn_tick(agent: &mut Agent, inputs: &[u8]) -> u8
     ensures { Answers (tick_call agent.old inputs.now) result agent.new
         × Continues agent.old (tick inputs.now) result agent.new }
 {
-    let answer = agent::calls::tick_answer(*agent, inputs);
-    if answer != ACCEPTED {
-        return answer;
+    match judge_tick(agent, inputs) {
+        Ok(inputs) => {
+            *agent = ticked(*agent, inputs);
+            0
+        }
+        Err(refusal) => refusal.number(),
     }
-    *agent = agent_ticks::on_tick::on_tick(*agent, inputs);
-    answer
 }
 
 // A body received on a port, and the reply buffer, whose bytes past what is sent keep their value.
@@ -44,8 +48,7 @@ pub fn saturn_frame(
     ensures { AnswersFrame (frame_call agent.old port body.now (length reply.old)) result agent.new sent.new reply.old reply.new
         × Continues agent.old (frame port body.now (length reply.old)) result agent.new }
 {
-    let handled = agent::calls::frame(*agent, port, body, reply);
-    *agent = handled.agent;
-    *sent = handled.sent;
-    handled.answer
+    let judged = agent::calls::frame(agent, port, body, reply);
+    *sent = judged.unwrap_or(0);
+    answer(&judged)
 }

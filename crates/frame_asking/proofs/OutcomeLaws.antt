@@ -1,23 +1,24 @@
 -- Laws of what a line asks for, one for each case. Assumes nothing.
-use mathlib.Core.Path.{◌≡◌, refl, sym, ap, ◌∙◌}
+use mathlib.Core.Path.{◌≡◌, sym, ap, ◌∙◌}
 use mathlib.Core.Bool.{true, false}
 use mathlib.Core.List.{List, [], ◌∷◌}
-use mathlib.Core.Option.{Option}
-use Prim.Native.Nat.{ℕ, zero, suc, ◌+◌, ◌*◌, ◌≤◌, ◌<◌}
-use native.Mathlib.Omega.{arith}
+use Rattle.std.specs.Prelude.{Option, None, Result, Ok, Err}
+use Prim.Native.Nat.{ℕ, ◌+◌, ◌≤◌, ◌<◌}
 use borrow.Author.Tests.{lt-ltb, le-ltb}
-use lib.ListN.{length, drop, get_or, replicate}
-use Rattle.text.specs.Hex.{hex_pairs}
+use lib.ListN.{length, drop, replicate}
+use Rattle.text.specs.Hex.{hex_pairs, hex_of}
+use Rattle.text.specs.declared.hex.HexFault.{HexFault}
 use Rattle.frame_words.specs.Chars.{chars}
 use Rattle.frame_words.specs.Words.{word_at, word_end}
-use Rattle.frame_words.specs.Table.{fields_from, fields_in, fields_of, has_data}
-use Rattle.frame_fields.specs.Rows.{read_fields, data_at}
+use Rattle.frame_words.specs.Table.{fields_of, has_data}
+use Rattle.frame_fields.specs.Rows.{shown_row, read_fields, data_at}
 use Rattle.frame_text.specs.Said.{wants}
 use Rattle.frame_words.specs.Called.{called}
-use Rattle.frame_asking.specs.Outcome.{build, complain, at_end, by_data, with_data, wants_field, by_row, by_kind, by_bytes, by_body, by_word, outcome_of}
+use Rattle.frame_asking.specs.Outcome.{build, complain, at_end, by_data, with_data, by_row, by_kind, by_bytes, by_body, by_word, outcome_of}
 use Rattle.frame_words.specs.declared.table.Kind.{Kind}
-use Rattle.frame_words.specs.declared.table.Form.{Form}
+use Rattle.frame_asking.proofs.HexCount.{data_half, dropped_half, read_wrong}
 use Rattle.frame_fields.specs.declared.rows.Row.{Row}
+use Rattle.frame_fields.specs.declared.rows.Stopped.{Stopped}
 use Rattle.frame_words.specs.declared.called.Called.{Called}
 
 -- ---- the end
@@ -34,43 +35,6 @@ module _ (s : List ℕ) (at : ℕ) (k : Kind) (vs : List ℕ) where
   unfolding with_data
   with_data_lem o e = rw e
 
--- ---- the fields
-from_length : (names digits : List ℕ) (i n : ℕ) → length (fields_from names digits i n) ≡ n
-from_length names digits i zero = refl
-from_length names digits i (suc n) = ap suc (from_length names digits (i + 1) n)
-
-from_wants : (names digits : List ℕ) (i n k : ℕ) → n < k
-    → wants_field (fields_from names digits i k) n ≡ wants (word_at names ((i + n) * 8)) (get_or digits (i + n) 0)
-from_wants names digits i n zero h = absurd (omega arith)
-from_wants names digits i zero (suc k) h = let e : i + 0 ≡ i = omega arith in rw e
-from_wants names digits i (suc n) (suc k) h =
-    let e : i + suc n ≡ i + 1 + n = omega arith in
-    rw e (from_wants names digits (i + 1) n k (omega arith))
-
-module _ (s : List ℕ) (at : ℕ) (k : Kind) (form : Form) (row : Row) (e : fields_in form ≡ fields_of k) (r : row ≡ read_fields (fields_of k) s at 0 (replicate 8 0)) where
-  by_row_lem : by_kind s at k ≡ by_row s k row
-  unfolding by_kind
-  by_row_lem = rw r
-
-  count_is : length (fields_of k) ≡ form.count
-  count_is = ap length (sym e) ∙ from_length form.names form.digits 0 form.count
-
-  pub kind_wants : row.count < form.count
-      → by_kind s at k ≡ complain (wants (word_at form.names (row.count * 8)) (get_or form.digits row.count 0))
-  unfolding by_row
-  kind_wants h =
-      let z : 0 + row.count ≡ row.count = omega arith in
-      by_row_lem ∙ rw (count_is, lt-ltb _ _ h, ← e) (ap complain (from_wants form.names form.digits 0 row.count form.count h ∙ rw z))
-
-  module _ (h : form.count ≤ row.count) where
-    pub kind_data : has_data k ≡ true → by_kind s at k ≡ with_data s row.at k row.values
-    unfolding by_row
-    kind_data d = by_row_lem ∙ rw (count_is, le-ltb _ _ h, d)
-
-    pub kind_plain : has_data k ≡ false → by_kind s at k ≡ at_end s row.at k row.values []
-    unfolding by_row
-    kind_plain d = by_row_lem ∙ rw (count_is, le-ltb _ _ h, d)
-
 -- ---- a body
 module _ (s : List ℕ) (at : ℕ) where
   pub body_missing : length s ≤ at → by_body s at ≡ complain (chars "body wants pairs of hex digits" ∷ [])
@@ -81,7 +45,32 @@ module _ (s : List ℕ) (at : ℕ) where
   unfolding by_body
   body_by h o e = rw (lt-ltb _ _ h, e)
 
+-- what is refused of the line's digits is not pairs of digits: 600 bytes are room for all
+module _ (s : List ℕ) (h : length s ≤ 1200) (at : ℕ) (r : Result ℕ HexFault) (x : HexFault) (q : r ≡ Err x) where
+  pub data_wrong : (k : Kind) (vs : List ℕ) → r ≡ hex_of 600 (data_at s at)
+      → with_data s at k vs ≡ complain (chars "data= wants pairs of hex digits" ∷ [])
+  data_wrong k vs e = with_data_lem s at k vs None (read_wrong (length s) (data_at s at) r h (data_half s at) e x q)
+
+  pub body_wrong : at < length s → r ≡ hex_of 600 (hex_pairs (drop (at + 1) s))
+      → by_body s at ≡ complain (chars "body wants pairs of hex digits" ∷ [])
+  body_wrong i e = body_by s at i None (read_wrong (length s) (hex_pairs (drop (at + 1) s)) r h (dropped_half (at + 1) s) e x q)
+
+-- ---- the fields
+module _ (s : List ℕ) (at : ℕ) (k : Kind) (r : Result Row Stopped) (e : shown_row r ≡ read_fields (fields_of k) s at 0 (replicate 8 0)) where
+  pub kind_wants : (x : Stopped) → r ≡ Err x → by_kind s at k ≡ complain (wants x.field.0.now x.field.1)
+  unfolding by_kind
+  kind_wants x q = ap (by_row s k) (sym e ∙ ap shown_row q)
+
+  module _ (row : Row) (q : r ≡ Ok row) where
+    pub kind_data : has_data k ≡ true → by_kind s at k ≡ with_data s row.at k row.values
+    unfolding by_kind
+    kind_data d = ap (by_row s k) (sym e ∙ ap shown_row q) ∙ rw d
+
+    pub kind_plain : has_data k ≡ false → by_kind s at k ≡ at_end s row.at k row.values []
+    unfolding by_kind
+    kind_plain d = ap (by_row s k) (sym e ∙ ap shown_row q) ∙ rw d
+
 -- ---- the first word
-pub asked_by : (s : List ℕ) (c : Called) → called (word_at s 0) ≡ c → outcome_of s ≡ by_word c s (word_end s 0)
+pub asked_by : (s : List ℕ) (c : Option Called) → called (word_at s 0) ≡ c → outcome_of s ≡ by_word c s (word_end s 0)
 unfolding outcome_of
 asked_by s c e = rw e

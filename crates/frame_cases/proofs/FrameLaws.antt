@@ -1,5 +1,5 @@
 -- Laws of a case of frames: one for each way through the code. Assumes nothing.
-use mathlib.Core.Path.{◌≡◌, refl, sym, ap, ap₂, ◌∙◌}
+use mathlib.Core.Path.{◌≡◌, sym, ap, ◌∙◌, subst}
 use mathlib.Core.Bool.{true, false, ◌||◌}
 use mathlib.Core.List.{List, [], ◌∷◌, ◌++◌, append-nil}
 use Prim.Native.Nat.{ℕ, ◌+◌, ◌-◌, ◌≤◌, ◌<◌}
@@ -9,19 +9,19 @@ use lib.Dec.{ltb}
 use lib.ListN.{length, take, drop, length-take, length-drop, length-append}
 use lib.Seq.{take_all}
 use Rattle.base.specs.Bytes.{number_at}
-use Rattle.base.proofs.Choosing.{or_right_false}
+use Rattle.base.proofs.Choosing.{absurdly, or_right_false}
 use Rattle.fields.specs.Fields.{laid}
 use Rattle.fields.proofs.Tables.{length_laid}
-use Rattle.wire.specs.Answer.{Answer}
+use Rattle.std.specs.Prelude.{Ok, Err}
+use Rattle.wire.specs.Body.{ReadBody, read_body}
+use Rattle.wire.proofs.BodyLength.{Short, read_short}
 use Rattle.frame_kinds.specs.Kinds.{tail_of, data_len, data_start, data_in}
 use Rattle.frame_kinds.proofs.Parts.{data_at_lem}
-use Rattle.frame_reading.specs.Reading.{reading_answer, reading_number, received_answer}
+use Rattle.frame_reading.specs.Reading.{ReadFrame, number_of, framed, frame_answer, read_frame, answer_to_frame}
+use Rattle.frame_reading.specs.declared.BodyFault.{BodyFault}
+use Rattle.frame_reading.proofs.Receiving.{read_says, passed_on}
 use Rattle.frame_kinds.specs.declared.kinds.Frame.{Frame}
-use Rattle.frame_reading.specs.declared.Reading.{Reading}
-use Rattle.frame_reading.specs.declared.Reading.TheVariants as reading
-use Rattle.frame_reading.specs.declared.Received.{Received}
-use Rattle.frame_words.specs.Texts.{no_text, put, puts}
-use Rattle.frame_words.specs.declared.texts.Text.{Text}
+use Rattle.frame_words.specs.Texts.{put, puts}
 use Rattle.cases.specs.Cases.{Says}
 use Rattle.cases.specs.Layings.{pattern}
 use Rattle.cases.proofs.AnswerLaws.{says_none, says_pieces}
@@ -29,56 +29,59 @@ use Rattle.case_fields.specs.Kinds.{row_of, frame_at, fields_len}
 use Rattle.case_fields.proofs.KindLaws.{rows}
 use Rattle.frame_cases.specs.Answers.{read_bytes, written_into, write_answer}
 
--- ---- a body that is refused
-refused : (x : Reading) (s : List ℕ) → ((a : ℕ) (f : Frame) → x ≡ reading.Valid a f → ⊥) → reading_number x ∷ [] ≡ read_bytes (reading_answer x s)
-refused (reading.Valid a f) s k = absurd (k a f refl)
-refused reading.Length s k = refl
-refused reading.Stuffing s k = refl
-refused reading.Size s k = refl
-refused reading.Fcs s k = refl
-refused reading.Reserved s k = refl
-refused reading.Kind s k = refl
-refused reading.Form s k = refl
-refused reading.Check s k = refl
+-- ---- a body that is read
+-- what is read is short
+abbrev Brief : ReadFrame → Type 0
+Brief (Ok (a, f, s)) = length s ≤ 269
+Brief (Err e) = Unit
 
-module _ (r : Received) (o : Answer (ℕ × Frame × List ℕ)) (e : received_answer r ≡ o) (n : ℕ) (p : n ≡ reading_number r.reading) (t : Text) where
-  pub read_refused : ((a : ℕ) (f : Frame) → r.reading ≡ reading.Valid a f → ⊥) → t ≡ put no_text (n ∷ []) → Says t (read_bytes o)
-  read_refused k q =
-      let w : n ∷ [] ≡ read_bytes o = ap (λ (m : ℕ). m ∷ []) p ∙ refused r.reading (take r.len r.bytes) k ∙ ap read_bytes e in
-      says_pieces ((n ∷ []) ∷ []) (read_bytes o) t q w (omega (arith, ap length w))
+short : (b : ReadBody) → Short b → (r : ReadFrame) → framed b ≡ r → Brief r
+short (Ok (a, s)) h (Ok (c, f, xs)) e =
+    let w = read_says c f xs (Ok (a, s)) e in
+    let k : length xs ≤ 269 = subst Short w.0 h in
+    k
+short (Err x) h (Ok r) e = absurdly (cc)
+short b h (Err e) q = tt
 
-  -- a frame: its application data are the first k bytes
-  module _ (k : ℕ) (l : length r.bytes ≡ 272) (c : take k r.bytes ≡ take r.len r.bytes) (a : ℕ) (f : Frame) (v : r.reading ≡ reading.Valid a f) where
+module _ (s t : List ℕ) where
+  pub read_refused : (e : BodyFault) (n : ℕ) → Err e ≡ read_frame s → n ≡ number_of e → t ≡ put [] (n ∷ []) → Says t (read_bytes (answer_to_frame s))
+  read_refused e n p q u =
+      let w : n ∷ [] ≡ read_bytes (answer_to_frame s)
+      = ap (λ (m : ℕ). m ∷ []) q ∙ ap (λ (r : ReadFrame). read_bytes (frame_answer r)) p ∙ ap read_bytes (passed_on s) in
+      says_pieces ((n ∷ []) ∷ []) (read_bytes (answer_to_frame s)) t u w (omega (arith, ap length w))
+
+  module _ (a : ℕ) (f : Frame) (app : List ℕ) (p : Ok (a, f, app) ≡ read_frame s) where
     abbrev taken : List ℕ
-    taken = take (data_len f) (drop (data_start f) (take k r.bytes))
+    taken = take (data_len f) (drop (data_start f) app)
 
-    pub read_valid : t ≡ puts no_text ((n ∷ a ∷ []) ∷ ((row_of f).0 ∷ []) ∷ laid (row_of f).1 ∷ laid (tail_of f) ∷ taken ∷ []) → Says t (read_bytes o)
-    read_valid q =
-        let xs : List ℕ = taken in
+    app_short : length app ≤ 269
+    unfolding read_frame
+    app_short = short (read_body s) (read_short s) (Ok (a, f, app)) (sym p)
+
+    pub read_valid : t ≡ puts [] ((0 ∷ a ∷ []) ∷ ((row_of f).0 ∷ []) ∷ laid (row_of f).1 ∷ laid (tail_of f) ∷ taken ∷ []) → Says t (read_bytes (answer_to_frame s))
+    read_valid u =
         let g : List ℕ = laid (row_of f).1 in
         let h : List ℕ = laid (tail_of f) in
-        let z : xs ≡ data_in f (take r.len r.bytes) = data_at_lem f (take k r.bytes) ∙ ap (data_in f) c in
-        let m : n ≡ 0 = p ∙ ap reading_number v in
-        let w : n ∷ a ∷ (row_of f).0 ∷ (g ++ (h ++ xs)) ≡ read_bytes o =
-        ap₂ (λ (i : ℕ) (s : List ℕ). i ∷ a ∷ (row_of f).0 ∷ (g ++ (h ++ s))) m z
-        ∙ ap (λ (x : Reading). read_bytes (reading_answer x (take r.len r.bytes))) (sym v) ∙ ap read_bytes e in
-        let d : length xs ≤ 272 =
-        omega (arith, length-take (data_len f) (drop (data_start f) (take k r.bytes)), length-drop (data_start f) (take k r.bytes), length-take k r.bytes) in
-        says_pieces ((n ∷ a ∷ []) ∷ ((row_of f).0 ∷ []) ∷ g ∷ h ∷ xs ∷ []) (read_bytes o) t q
-        (ap (λ (s : List ℕ). n ∷ a ∷ (row_of f).0 ∷ (g ++ (h ++ s))) (append-nil xs) ∙ w)
-        (omega (arith, ap length w, length-append g (h ++ xs), length-append h xs, length_laid (row_of f).1, length_laid (tail_of f), (rows f).short))
+        let z : taken ≡ data_in f app = data_at_lem f app in
+        let w : 0 ∷ a ∷ (row_of f).0 ∷ (g ++ (h ++ taken)) ≡ read_bytes (answer_to_frame s) =
+        ap (λ (l : List ℕ). 0 ∷ a ∷ (row_of f).0 ∷ (g ++ (h ++ l))) z
+        ∙ ap (λ (r : ReadFrame). read_bytes (frame_answer r)) p ∙ ap read_bytes (passed_on s) in
+        let d : length taken ≤ 269 = omega (arith, length-take (data_len f) (drop (data_start f) app), length-drop (data_start f) app, app_short) in
+        says_pieces ((0 ∷ a ∷ []) ∷ ((row_of f).0 ∷ []) ∷ g ∷ h ∷ taken ∷ []) (read_bytes (answer_to_frame s)) t u
+        (ap (λ (l : List ℕ). 0 ∷ a ∷ (row_of f).0 ∷ (g ++ (h ++ l))) (append-nil taken) ∙ w)
+        (omega (arith, ap length w, length-append g (h ++ taken), length-append h taken, length_laid (row_of f).1, length_laid (tail_of f), (rows f).0, (rows f).1))
 
 -- ---- a frame that is written
 pub within : (k n : ℕ) → (ltb 0x0C k || ltb 600 n) ≡ false → n ≤ 600
 within k n h = ltb-false 600 n (or_right_false (ltb 0x0C k) (ltb 600 n) h)
 
-module _ (s : List ℕ) (t : Text) (n k : ℕ) (p : n ≡ number_at s 0 2) (q : k ≡ number_at s 3 1) where
-  pub write_none : (ltb 0x0C k || ltb 600 n) ≡ true → t ≡ no_text → Says t (write_answer s)
+module _ (s : List ℕ) (t : List ℕ) (n k : ℕ) (p : n ≡ number_at s 0 2) (q : k ≡ number_at s 3 1) where
+  pub write_none : (ltb 0x0C k || ltb 600 n) ≡ true → t ≡ [] → Says t (write_answer s)
   unfolding write_answer
   write_none h e = rw (← q, ← p, h) (says_none t e)
 
   module _ (h : (ltb 0x0C k || ltb 600 n) ≡ false) where
-    pub write_short : length s < 4 + fields_len k → t ≡ no_text → Says t (write_answer s)
+    pub write_short : length s < 4 + fields_len k → t ≡ [] → Says t (write_answer s)
     unfolding write_answer
     write_short i e = rw (← q, ← p, h, lt-ltb (length s) (4 + fields_len k) i) (says_none t e)
 

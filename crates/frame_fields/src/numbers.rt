@@ -32,9 +32,9 @@ pub fn kind_of(f: Frame) -> Kind
 pub fn numbers_of(addr: u8, f: Frame) -> [u64; 8]
     ensures { result ≡ numbers_of addr f }
 {
-    let a = addr as u64;
+    let a = u64::from(addr);
     match f {
-        Frame::Sync { src, cyc } => [src as u64, cyc as u64, 0, 0, 0, 0, 0, 0],
+        Frame::Sync { src, cyc } => [src.into(), cyc.into(), 0, 0, 0, 0, 0, 0],
         Frame::SafeRead {
             dest,
             src,
@@ -44,12 +44,12 @@ pub fn numbers_of(addr: u8, f: Frame) -> [u64; 8]
             add,
         } => [
             a,
-            dest as u64,
-            src as u64,
-            cyc as u64,
-            seq as u64,
-            datl as u64,
-            add as u64,
+            dest.into(),
+            src.into(),
+            cyc.into(),
+            seq.into(),
+            datl.into(),
+            add.into(),
             0,
         ],
         Frame::SafeWrite {
@@ -61,16 +61,16 @@ pub fn numbers_of(addr: u8, f: Frame) -> [u64; 8]
             ..
         } => [
             a,
-            dest as u64,
-            src as u64,
-            cyc as u64,
-            seq as u64,
-            add as u64,
+            dest.into(),
+            src.into(),
+            cyc.into(),
+            seq.into(),
+            add.into(),
             0,
             0,
         ],
-        Frame::PlainRead { src, datl, add } => [a, src as u64, datl as u64, add as u64, 0, 0, 0, 0],
-        Frame::PlainWrite { src, add, .. } => [a, src as u64, add as u64, 0, 0, 0, 0, 0],
+        Frame::PlainRead { src, datl, add } => [a, src.into(), datl.into(), add.into(), 0, 0, 0, 0],
+        Frame::PlainWrite { src, add, .. } => [a, src.into(), add.into(), 0, 0, 0, 0, 0],
         Frame::SafeResponse {
             dest,
             src,
@@ -82,30 +82,44 @@ pub fn numbers_of(addr: u8, f: Frame) -> [u64; 8]
             ..
         } => [
             a,
-            dest as u64,
-            src as u64,
-            cyc as u64,
-            seq as u64,
-            com as u64,
-            add as u64,
-            stat as u64,
+            dest.into(),
+            src.into(),
+            cyc.into(),
+            seq.into(),
+            com.into(),
+            add.into(),
+            stat.into(),
         ],
         Frame::PlainSyncResponse { src, add, stat, .. } => [
             a,
-            src as u64,
-            add as u64,
-            stat as u64,
+            src.into(),
+            add.into(),
+            stat.into(),
             0,
             0,
             0,
             0,
         ],
         Frame::PlainResponse { src, com, add, .. } => [
-            a, src as u64, com as u64, add as u64, 0, 0, 0, 0,
+            a,
+            src.into(),
+            com.into(),
+            add.into(),
+            0,
+            0,
+            0,
+            0,
         ],
-        Frame::TidAssignment { src, iid, tid } => [a, src as u64, iid, tid as u64, 0, 0, 0, 0],
+        Frame::TidAssignment { src, iid, tid } => [a, src.into(), iid, tid.into(), 0, 0, 0, 0],
         Frame::SidAssignment { src, sec, mac, sid } => [
-            a, src as u64, sec as u64, mac, sid as u64, 0, 0, 0,
+            a,
+            src.into(),
+            sec.into(),
+            mac,
+            sid.into(),
+            0,
+            0,
+            0,
         ],
         Frame::SidAssignment4 {
             src,
@@ -116,16 +130,23 @@ pub fn numbers_of(addr: u8, f: Frame) -> [u64; 8]
             src2,
         } => [
             a,
-            src as u64,
-            sec as u64,
+            src.into(),
+            sec.into(),
             mac,
-            sid as u64,
-            sid2 as u64,
-            src2 as u64,
+            sid.into(),
+            sid2.into(),
+            src2.into(),
             0,
         ],
         Frame::Acknowledgement { src, dst, sec, mac } => [
-            a, src as u64, dst as u64, sec as u64, mac, 0, 0, 0,
+            a,
+            src.into(),
+            dst.into(),
+            sec.into(),
+            mac,
+            0,
+            0,
+            0,
         ],
         Frame::Invariants {
             dest,
@@ -136,12 +157,12 @@ pub fn numbers_of(addr: u8, f: Frame) -> [u64; 8]
             logic,
         } => [
             a,
-            dest as u64,
-            src as u64,
-            cyc as u64,
-            seq as u64,
-            config as u64,
-            logic as u64,
+            dest.into(),
+            src.into(),
+            cyc.into(),
+            seq.into(),
+            config.into(),
+            logic.into(),
             0,
         ],
     }
@@ -262,21 +283,7 @@ pub fn frame_of(kind: Kind, v: [u64; 8], datl: u8) -> Frame
 fn has_address(kind: Kind) -> bool
     ensures { result ≡ has_address kind }
 {
-    match kind {
-        Kind::Sync => false,
-        Kind::Read => true,
-        Kind::Write => true,
-        Kind::PlainRead => true,
-        Kind::PlainWrite => true,
-        Kind::Response => true,
-        Kind::PlainSyncResponse => true,
-        Kind::PlainResponse => true,
-        Kind::Tid => true,
-        Kind::Sid => true,
-        Kind::Sid4 => true,
-        Kind::Ack => true,
-        Kind::Invariants => true,
-    }
+    !matches!(kind, Kind::Sync)
 }
 
 pub fn address_of(kind: Kind, v: [u64; 8]) -> u8
@@ -292,8 +299,5 @@ pub fn address_of(kind: Kind, v: [u64; 8]) -> u8
 pub fn datl_of(n: usize) -> u8
     ensures { result ≡ datl_of n }
 {
-    if 255 < n {
-        return 255;
-    }
-    n as u8
+    u8::try_from(n).unwrap_or(u8::MAX)
 }

@@ -1,13 +1,22 @@
 -- The form of each kind of frame: numbers 8 and 9. `number_at s position length` is a field. Assumes nothing.
-use Rattle.std.specs.Prelude.{Bool, true, false, ◌&&◌, ◌||◌, List, ℕ, ◌+◌, ◌-◌, eqb, ltb, length, take}
+use Rattle.std.specs.Prelude.{Bool, true, false, ◌&&◌, ◌||◌, List, ℕ, ◌+◌, ◌-◌, eqb, ltb, length, take, Result, Ok, Err}
 use Rattle.base.specs.Choice.{choose}
 use Rattle.base.specs.Bytes.{number_at}
-use Rattle.crc.specs.Crc.{crc_of}
-use Rattle.crc.specs.declared.Poly.TheVariants.{Safety}
+use Rattle.crc.specs.Crc.{crc_of, Safety}
 use Rattle.frame_kinds.specs.declared.kinds.Frame.{Frame}
 use Rattle.frame_kinds.specs.declared.kinds.Frame.TheVariants.{Sync, SafeRead, SafeWrite, PlainRead, PlainWrite, SafeResponse, PlainSyncResponse, PlainResponse, TidAssignment, SidAssignment, SidAssignment4, Acknowledgement, Invariants}
-use Rattle.frame_forms.specs.declared.Read.{Read}
-use Rattle.frame_forms.specs.declared.Read.TheVariants.{Valid, Form, Check}
+use Rattle.frame_forms.specs.declared.FrameFault.{FrameFault}
+use Rattle.frame_forms.specs.declared.FrameFault.TheVariants.{Kind, Form, Check}
+
+-- application data as they were read: a frame, or a fault
+abbrev pub Read : Type 0
+Read = Result Frame FrameFault
+
+-- document 01's number for each fault
+abbrev pub number_of : FrameFault → ℕ
+number_of Kind = 7
+number_of Form = 8
+number_of Check = 9
 
 -- the safety CRC at the end is that of the bytes before it
 unfoldable pub safe_ok : List ℕ → Bool
@@ -15,11 +24,11 @@ safe_ok s = eqb (crc_of Safety (take (length s - 2) s)) (number_at s (length s -
 
 -- a safe frame: its form (8), then its CRC (9)
 unfoldable pub safe_read : Bool → List ℕ → Frame → Read
-safe_read form s f = choose form (choose (safe_ok s) (Valid f) Check) Form
+safe_read form s f = choose form (choose (safe_ok s) (Ok f) (Err Check)) (Err Form)
 
 -- a non-safe frame: its form only
 unfoldable pub plain_read : Bool → Frame → Read
-plain_read form f = choose form (Valid f) Form
+plain_read form f = choose form (Ok f) (Err Form)
 
 -- table 4; a sync has address FFh
 unfoldable pub read_sync : ℕ → List ℕ → Read
@@ -37,7 +46,7 @@ safe_write_request s =
     (SafeWrite (number_at s 1 3) (number_at s 4 3) (number_at s 7 1) (number_at s 8 1) (number_at s 10 1) (number_at s 11 1))
 
 unfoldable pub read_safe_request : List ℕ → Read
-read_safe_request s = choose (eqb (number_at s 9 1) 0x88) (safe_read_request s) (choose (eqb (number_at s 9 1) 0x77) (safe_write_request s) Form)
+read_safe_request s = choose (eqb (number_at s 9 1) 0x88) (safe_read_request s) (choose (eqb (number_at s 9 1) 0x77) (safe_write_request s) (Err Form))
 
 -- table 6: COM 02h reads, 01h writes
 unfoldable pub read_plain_request : List ℕ → Read
@@ -46,7 +55,7 @@ read_plain_request s =
     (plain_read (eqb (length s) 5) (PlainRead (number_at s 1 1) (number_at s 3 1) (number_at s 4 1)))
     (choose (eqb (number_at s 2 1) 0x01)
     (plain_read (eqb (length s) (5 + number_at s 3 1)) (PlainWrite (number_at s 1 1) (number_at s 3 1) (number_at s 4 1)))
-    Form)
+    (Err Form))
 
 -- table 7: COM 07h and 70h with at most 254 data bytes, AAh and 55h (errors) with none
 unfoldable pub safe_com : ℕ → ℕ → Bool

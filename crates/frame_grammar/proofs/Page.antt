@@ -1,16 +1,16 @@
 -- The page of the grammar is printed whole: these lines, each with its LF. Assumes nothing.
-use mathlib.Core.Path.{◌≡◌, refl, ap, ◌∙◌}
+use mathlib.Core.Path.{◌≡◌, refl, ◌∙◌}
 use mathlib.Core.Bool.{Bool, true, false}
 use mathlib.Core.List.{List, [], ◌∷◌, ◌++◌}
 use Prim.Native.Nat.{ℕ}
 use native.Mathlib.Omega.{arith}
 use lib.ListN.{length, take}
 use Rattle.frame_words.specs.Chars.{chars}
-use Rattle.frame_words.specs.Table.{Field, kind_word, fields_of, has_data}
-use Rattle.frame_words.specs.Texts.{no_text, puts, text_in}
+use Rattle.frame_words.specs.Table.{Field, kinds, kind_word, fields_of, has_data}
+use Rattle.frame_words.specs.Texts.{puts}
 use Rattle.frame_words.specs.declared.table.Kind.{Kind}
 use Rattle.frame_words.proofs.TextLaws.{joined, pieces_are}
-use Rattle.frame_grammar.specs.Grammar.{form_field, form_fields, form_text, requests, replies, others, other_lines, grammar_text}
+use Rattle.frame_grammar.specs.Grammar.{form_field, form_fields, form_text, other_lines, grammar_text}
 
 abbrev page : List (List ℕ)
 page =
@@ -50,13 +50,14 @@ of_forms [] = []
 of_forms (k ∷ ks) = kind_word k ∷ (of_fields (fields_of k) ++ (of_data (has_data k) ++ ((0x0A ∷ []) ∷ of_forms ks)))
 
 abbrev pieces : List (List ℕ)
-pieces = of_forms requests ++ (of_forms replies ++ (of_forms others ++ other_lines))
+pieces = of_forms kinds ++ other_lines
 
-put_in_pieces : grammar_text ≡ puts no_text pieces
-unfolding grammar_text form_text form_fields form_field
+put_in_pieces : grammar_text ≡ puts [] pieces
+unfolding grammar_text kinds form_text form_fields form_field
 put_in_pieces = refl
 
-pub page_is : text_in grammar_text ≡ joined page
+pub page_is : grammar_text ≡ joined page
+unfolding kinds
 page_is =
     let n : length (joined pieces) ≡ 896 = refl in
-    ap text_in put_in_pieces ∙ pieces_are pieces (omega arith)
+    put_in_pieces ∙ pieces_are pieces (omega arith)

@@ -2,11 +2,9 @@
 use Rattle.std.specs.Prelude.{List, [], ◌∷◌, ℕ, take}
 use Rattle.base.specs.Choice.{choose}
 use Rattle.frame_words.specs.Chars.{chars}
-use Rattle.frame_words.specs.Table.{Field, kind_word, fields_of, has_data}
-use Rattle.frame_words.specs.Texts.{no_text, put, puts, end_line}
-use Rattle.frame_words.specs.declared.table.Kind as table
-use Rattle.frame_words.specs.declared.table.Kind.TheVariants as kind
-use Rattle.frame_words.specs.declared.texts.Text.{Text}
+use Rattle.frame_words.specs.Table.{Field, kinds, kind_word, fields_of, has_data}
+use Rattle.frame_words.specs.Texts.{Text, put, puts, end_line}
+use Rattle.frame_words.specs.declared.table.Kind.{Kind}
 
 unfoldable pub form_field : Text → Field → Text
 form_field t f = puts t (chars " " ∷ f.0 ∷ take f.1 (chars "xxxxxxxxxxxxxxxx") ∷ [])
@@ -16,23 +14,14 @@ form_fields [] t = t
 form_fields (f ∷ fs) t = form_fields fs (form_field t f)
 
 -- the form of a kind, put after a text; and those of several kinds, each with its LF
-unfoldable pub form_text : Text → table.Kind → Text
+unfoldable pub form_text : Text → Kind → Text
 form_text t k =
     choose (has_data k) (put (form_fields (fields_of k) (put t (kind_word k))) (chars " data=xx..."))
     (form_fields (fields_of k) (put t (kind_word k)))
 
-abbrev pub form_lines : List table.Kind → Text → Text
+abbrev pub form_lines : List Kind → Text → Text
 form_lines [] t = t
 form_lines (k ∷ ks) t = form_lines ks (end_line (form_text t k))
-
-abbrev pub requests : List table.Kind
-requests = kind.Sync ∷ kind.Read ∷ kind.Write ∷ kind.PlainRead ∷ kind.PlainWrite ∷ []
-
-abbrev pub replies : List table.Kind
-replies = kind.Response ∷ kind.PlainSyncResponse ∷ kind.PlainResponse ∷ []
-
-abbrev pub others : List table.Kind
-others = kind.Tid ∷ kind.Sid ∷ kind.Sid4 ∷ kind.Ack ∷ kind.Invariants ∷ []
 
 -- a body; a port before a frame or a body; and the lines that are passed on or left out
 abbrev pub other_lines : List (List ℕ)
@@ -45,4 +34,4 @@ other_lines =
 
 -- THE PAGE: a line for each kind, and the four others
 unfoldable pub grammar_text : Text
-grammar_text = puts (form_lines others (form_lines replies (form_lines requests no_text))) other_lines
+grammar_text = puts (form_lines kinds []) other_lines

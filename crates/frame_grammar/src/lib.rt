@@ -1,125 +1,77 @@
 // The page of the grammar, which saturn-frame prints for an empty list: a line for each kind, with x for each digit.
 #![tactic(auto)]
 
-ghost use Rattle.std.specs.Prelude.{◌≡◌, ◌*◌, ◌≤◌, ◌<◌, take, get_or};
+ghost use Rattle.std.specs.Prelude.{◌≡◌, take};
 ghost use Rattle.frame_words.specs.Chars.{chars};
-ghost use Rattle.frame_words.specs.Words.{word_at};
 ghost use Rattle.frame_words.specs.Table.{fields_in};
 ghost use Rattle.frame_words.specs.Texts.{put, puts, end_line};
-ghost use Rattle.frame_grammar.specs.Grammar.{form_field, form_fields, form_text, form_lines, requests, replies, others, other_lines, grammar_text};
+ghost use Rattle.frame_grammar.specs.Grammar.{form_fields, form_text, form_lines, other_lines, grammar_text};
 
-use frame_words::table::{Form, Kind};
+use frame_words::table::{Field, Kind, kinds};
 use frame_words::texts::Text;
-use frame_words::{table, texts};
+
+const PLACES: &[u8] = b"xxxxxxxxxxxxxxxx";
 
 // Adds `digits` letters x, at most 16.
-fn add_places(t: Text, digits: u8) -> Text
-    ensures { result ≡ put t (take digits (chars "xxxxxxxxxxxxxxxx")) }
+fn add_places(page: &mut Text, digits: u8)
+    ensures { page.new ≡ put page.old (take digits (chars "xxxxxxxxxxxxxxxx")) }
 {
-    let places = *b"xxxxxxxxxxxxxxxx";
-    let n = digits as usize;
-    if n < 16 {
-        return texts::add(t, &places[..n]);
+    let n = usize::from(digits).min(PLACES.len());
+    page.add(&PLACES[..n]);
+}
+
+// Adds fields, each with a space before it.
+#[tactic(auto, using(crate::proofs::GrammarLaws::fields_turn, crate::proofs::GrammarLaws::fields_end))]
+fn add_fields(page: &mut Text, fields: &[Field])
+    ensures { page.new ≡ form_fields (fields_in fields.now) page.old }
+{
+    for &(name, digits) in fields {
+        page.add(b" ");
+        page.add(name);
+        add_places(page, digits);
     }
-    texts::add(t, &places)
 }
 
-#[tactic(auto, unfolding(crate::specs::Grammar::form_field))]
-fn add_form_field(t: Text, form: Form, i: usize) -> Text
-    requires { i < 8 }
-    ensures { result ≡ form_field t (word_at form.names (i * 8), get_or form.digits i 0) }
+// Adds the form of a kind, with its LF.
+#[tactic(auto, using(crate::proofs::GrammarLaws::form_data, crate::proofs::GrammarLaws::form_plain))]
+fn add_line(page: &mut Text, kind: Kind)
+    ensures { page.new ≡ end_line (form_text page.old kind) }
 {
-    let names = form.names;
-    let digits = form.digits;
-    let u = texts::add_word(texts::add(t, b" "), &names, i * 8);
-    add_places(u, digits[i])
-}
-
-#[tactic(auto, using(crate::proofs::GrammarLaws::form_turn, crate::proofs::GrammarLaws::form_end))]
-fn add_form_fields(t: Text, form: Form) -> Text
-    requires { form.count ≤ 8 }
-    ensures { result ≡ form_fields (fields_in form) t }
-{
-    let count = form.count;
-    let mut u = t;
-    let mut i: usize = 0;
-    while i < count {
-        u = add_form_field(u, form, i);
-        i += 1;
+    page.add(kind.word());
+    add_fields(page, kind.fields());
+    if kind.has_data() {
+        page.add(b" data=xx...");
     }
-    u
+    page.end_line();
 }
 
-// Adds the form of a kind.
-#[tactic(auto, using(crate::proofs::GrammarLaws::form_data, crate::proofs::GrammarLaws::form_plain, frame_words::proofs::FormLaws::form_holds))]
-fn add_form(t: Text, kind: Kind) -> Text
-    ensures { result ≡ form_text t kind }
+// The lines of all kinds.
+#[tactic(auto, using(crate::proofs::GrammarLaws::lines_turn, crate::proofs::GrammarLaws::lines_end))]
+fn add_lines(page: &mut Text, all: &[Kind])
+    ensures { page.new ≡ form_lines all.now page.old }
 {
-    let form = table::form_of(kind);
-    let word = form.word;
-    let u = add_form_fields(texts::add_word(t, &word, 0), form);
-    if table::has_data(kind) {
-        return texts::add(u, b" data=xx...");
+    for &kind in all {
+        add_line(page, kind);
     }
-    u
-}
-
-// The same with its LF.
-fn add_line(t: Text, kind: Kind) -> Text
-    ensures { result ≡ end_line (form_text t kind) }
-{
-    texts::end_line(add_form(t, kind))
-}
-
-// The requests.
-#[tactic(auto, using(crate::proofs::GrammarLaws::line_behind))]
-fn add_requests(t: Text) -> Text
-    ensures { result ≡ form_lines requests t }
-{
-    let sync = add_line(t, Kind::Sync);
-    let read = add_line(sync, Kind::Read);
-    let write = add_line(read, Kind::Write);
-    let plain_read = add_line(write, Kind::PlainRead);
-    add_line(plain_read, Kind::PlainWrite)
-}
-
-// The responses.
-#[tactic(auto, using(crate::proofs::GrammarLaws::line_behind))]
-fn add_replies(t: Text) -> Text
-    ensures { result ≡ form_lines replies t }
-{
-    let response = add_line(t, Kind::Response);
-    let plain_sync = add_line(response, Kind::PlainSyncResponse);
-    add_line(plain_sync, Kind::PlainResponse)
-}
-
-// The assignments and the module's invariants.
-#[tactic(auto, using(crate::proofs::GrammarLaws::line_behind))]
-fn add_others(t: Text) -> Text
-    ensures { result ≡ form_lines others t }
-{
-    let tid = add_line(t, Kind::Tid);
-    let sid = add_line(tid, Kind::Sid);
-    let sid4 = add_line(sid, Kind::Sid4);
-    let ack = add_line(sid4, Kind::Ack);
-    add_line(ack, Kind::Invariants)
 }
 
 // A body; a port before a frame or a body; and the lines that are passed on or left out.
-fn add_other_lines(t: Text) -> Text
-    ensures { result ≡ puts t other_lines }
+fn add_other_lines(page: &mut Text)
+    ensures { page.new ≡ puts page.old other_lines }
 {
-    let body = texts::add(t, b"body xx...\n");
-    let port = texts::add(body, b"P FRAME: a port digit, a space and any line above\n");
-    let passed = texts::add(port, b"P xx..., T ..., I ...: printed unchanged\n");
-    texts::add(passed, b"# ...: nothing is printed\n")
+    page.add(b"body xx...\n");
+    page.add(b"P FRAME: a port digit, a space and any line above\n");
+    page.add(b"P xx..., T ..., I ...: printed unchanged\n");
+    page.add(b"# ...: nothing is printed\n");
 }
 
 // The whole page.
-#[tactic(auto, using(crate::proofs::GrammarLaws::page_whole))]
+#[tactic(auto, unfolding(crate::specs::Grammar::grammar_text))]
 pub fn grammar_text() -> Text
     ensures { result ≡ grammar_text }
 {
-    let forms = add_others(add_replies(add_requests(texts::no_text())));
-    add_other_lines(forms)
+    let mut page = Text::new();
+    add_lines(&mut page, kinds());
+    add_other_lines(&mut page);
+    page
 }

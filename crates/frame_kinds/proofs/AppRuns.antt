@@ -11,8 +11,7 @@ use Rattle.base.specs.Bytes.{bytes_of}
 use Rattle.base.proofs.Choosing.{choose_true, choose_false}
 use Rattle.base.proofs.Numbers.{length_bytes_of}
 use Rattle.base.proofs.Sets.{sets_append, sets_front}
-use Rattle.crc.specs.Crc.{crc_of}
-use Rattle.crc.specs.declared.Poly.TheVariants.{Safety}
+use Rattle.crc.specs.Crc.{crc_of, Safety}
 use Rattle.fields.specs.Fields.{laid}
 use Rattle.frame_kinds.specs.Kinds.{head_of, tail_of, is_safe, sealed, app_of}
 use Rattle.frame_kinds.specs.declared.kinds.Frame.{Frame}

@@ -10,8 +10,7 @@ use lib.Seq.{take_at, drop-append_seam}
 use Rattle.base.specs.Choice.{choose}
 use Rattle.base.specs.Bytes.{bytes_of}
 use Rattle.base.proofs.Numbers.{length_bytes_of}
-use Rattle.crc.specs.Crc.{crc_of}
-use Rattle.crc.specs.declared.Poly.TheVariants.{Safety}
+use Rattle.crc.specs.Crc.{crc_of, Safety}
 use Rattle.fields.specs.Fields.{laid, fields_at, widths, total, Fitting}
 use Rattle.fields.proofs.Tables.{length_laid, read_back, read_back_at}
 use Rattle.frame_kinds.specs.Kinds.{head_of, tail_of, is_safe, data_len, data_place, data_start, data_in, sealed, app_of}

@@ -16,8 +16,7 @@ use Rattle.frame_writing.specs.Writing.{fits, frame_line}
 use Rattle.frame_kinds.specs.declared.kinds.Frame.{Frame}
 use Rattle.frame_writing.proofs.Sending.{sent}
 use Rattle.frame_writing.proofs.WritingLaws.{app_bounds}
-use Rattle.frame_words.specs.Texts.{room, no_text, put, text_in, end_line}
-use Rattle.frame_words.specs.declared.texts.Text.{Text}
+use Rattle.frame_words.specs.Texts.{room, put, end_line}
 use Rattle.frame_words.proofs.TextLaws.{pieces_are}
 use Rattle.frame_text.specs.Built.{frame_built}
 use Rattle.frame_text.proofs.BuildingLaws.{built_by}
@@ -25,7 +24,7 @@ use Rattle.frame_text.proofs.BuildingLaws.{built_by}
 -- `port` is a port digit and a space, or nothing
 pub built_whole : (port : List ℕ) (a : ℕ) (f : Frame) (xs : List ℕ) → length port ≤ 2 → Sized f → reserved_addr a ≡ false
     → fits a f (length xs) ≡ true
-    → text_in (end_line (frame_built (put no_text port) a f xs)) ≡ port ++ (hex_text (body_of a (app_of f xs)) ++ (0x0A ∷ []))
+    → end_line (frame_built (put [] port) a f xs) ≡ port ++ (hex_text (body_of a (app_of f xs)) ++ (0x0A ∷ []))
 built_whole port a f xs p z r h =
     let ys : List ℕ = app_of f xs in
     let m : length ys ≤ 269 = (app_bounds a f xs z h).1 in
@@ -35,5 +34,5 @@ built_whole port a f xs p z r h =
     let n : length (port ++ (d ++ (0x0A ∷ []))) ≤ room =
     omega (arith, text_length (body_of a ys), length-append port (d ++ (0x0A ∷ [])), length-append d (0x0A ∷ []))
     in
-    ap (λ (t : Text). text_in (end_line t)) (sym (built_by a f xs (put no_text port) _ _ (sent 600 a f xs r h most) refl))
+    ap end_line (sym (built_by a f xs (put [] port) _ _ (sent 600 a f xs r h most) refl))
     ∙ pieces_are (port ∷ d ∷ (0x0A ∷ []) ∷ []) n

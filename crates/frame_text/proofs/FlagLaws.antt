@@ -13,7 +13,7 @@ use Rattle.wire.specs.Body.{reserved_addr}
 use Rattle.laying.specs.Laying.{body_with}
 use Rattle.frame_reading.specs.Reading.{read_frame}
 use Rattle.frame_kinds.specs.declared.kinds.Frame.{Frame}
-use Rattle.frame_reading.specs.declared.Reading.TheVariants.{Valid}
+use Rattle.std.specs.Prelude.{Ok}
 use Rattle.frame_writing.proofs.LineBothWays.{Sendable, read_frame_laid}
 use Rattle.frame_text.specs.Explained.{is_flagged}
 
@@ -32,7 +32,7 @@ address_first : (a : ℕ) (f : Frame) (d s : List ℕ) → Sendable a f d s → 
 unfolding body_with
 address_first a f d s x = ap (λ (l : List ℕ). get_or l 0 0) x.laid
 
-pub flagged_no_frame : (bs : List ℕ) (a : ℕ) (f : Frame) → Bytes bs → is_flagged bs ≡ true → (read_frame bs).reading ≡ Valid a f → ⊥
-flagged_no_frame bs a f b e r =
-    let x = read_frame_laid a f bs b r in
+pub flagged_no_frame : (bs : List ℕ) (a : ℕ) (f : Frame) (ys : List ℕ) → Bytes bs → is_flagged bs ≡ true → read_frame bs ≡ Ok (a, f, ys) → ⊥
+flagged_no_frame bs a f ys b e r =
+    let x = read_frame_laid a f ys bs b r in
     never (sym x.free ∙ flag_reserved a (sym (address_first a f _ bs x) ∙ flag_first bs e))

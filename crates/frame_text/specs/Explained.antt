@@ -1,18 +1,15 @@
 -- A body explained, and put after a text: the frame's kind, fields and data, or the reader's refusal. Assumes nothing.
-use Rattle.std.specs.Prelude.{Bool, ◌&&◌, List, [], ◌∷◌, ℕ, ◌+◌, ◌-◌, ◌/◌, eqb, ltb, length, take, drop, get_or}
+use Rattle.std.specs.Prelude.{Bool, ◌&&◌, List, [], ◌∷◌, ℕ, ◌+◌, ◌-◌, ◌/◌, eqb, ltb, length, take, drop, get_or, Ok, Err}
 use Rattle.base.specs.Choice.{choose}
 use Rattle.base.specs.Bytes.{bytes_of}
 use Rattle.fields.specs.Fields.{width8}
 use Rattle.text.specs.Putting.{hex_text}
 use Rattle.frame_kinds.specs.Kinds.{data_in}
-use Rattle.frame_reading.specs.Reading.{read_frame}
+use Rattle.frame_reading.specs.Reading.{ReadFrame, read_frame}
 use Rattle.frame_kinds.specs.declared.kinds.Frame.{Frame}
-use Rattle.frame_reading.specs.declared.Reading.{Reading}
-use Rattle.frame_reading.specs.declared.Reading.TheVariants.{Valid, Length, Stuffing, Size, Fcs, Reserved, Kind, Form, Check}
 use Rattle.frame_words.specs.Chars.{chars}
 use Rattle.frame_words.specs.Table.{Field, kind_word, fields_of, has_data}
-use Rattle.frame_words.specs.Texts.{put, puts}
-use Rattle.frame_words.specs.declared.texts.Text.{Text}
+use Rattle.frame_words.specs.Texts.{Text, put, puts}
 use Rattle.frame_fields.specs.Numbers.{kind_of, numbers_of}
 use Rattle.frame_text.specs.Said.{refused_reading}
 
@@ -30,19 +27,12 @@ frame_text t a f bytes =
     (put_fields (fields_of (kind_of f)) (numbers_of a f) 0 (put t (kind_word (kind_of f))))
 
 -- or the reader's refusal
-abbrev pub by_reading : Text → Reading → List ℕ → Text
-by_reading t (Valid a f) bytes = frame_text t a f bytes
-by_reading t Length bytes = refused_reading t Length
-by_reading t Stuffing bytes = refused_reading t Stuffing
-by_reading t Size bytes = refused_reading t Size
-by_reading t Fcs bytes = refused_reading t Fcs
-by_reading t Reserved bytes = refused_reading t Reserved
-by_reading t Kind bytes = refused_reading t Kind
-by_reading t Form bytes = refused_reading t Form
-by_reading t Check bytes = refused_reading t Check
+abbrev pub by_reading : Text → ReadFrame → Text
+by_reading t (Ok (a, f, app)) = frame_text t a f app
+by_reading t (Err e) = refused_reading t e
 
 unfoldable pub read_text : Text → List ℕ → Text
-read_text t body = by_reading t (read_frame body).reading (read_frame body).bytes
+read_text t body = by_reading t (read_frame body)
 
 -- ---- flags, as a trace shows them, are left off
 unfoldable pub is_flagged : List ℕ → Bool

@@ -1,140 +1,97 @@
 // A body explained, and added to a text: the frame's kind, fields and data, or the reader's refusal.
-ghost use Rattle.std.specs.Prelude.{◌≡◌, ◌*◌, ◌/◌, ◌≤◌, ◌<◌, length, get_or};
+ghost use Rattle.std.specs.Prelude.{◌≡◌, ◌/◌, ◌≤◌, length};
 ghost use Rattle.base.specs.Bytes.{bytes_of};
 ghost use Rattle.fields.specs.Fields.{width8};
 ghost use Rattle.text.specs.Putting.{hex_text};
-ghost use Rattle.frame_kinds.specs.Kinds.{data_in};
-ghost use Rattle.frame_words.specs.Words.{word_at};
 ghost use Rattle.frame_words.specs.Table.{fields_in};
 ghost use Rattle.frame_words.specs.Texts.{put};
-ghost use Rattle.frame_text.specs.Explained.{put_field, put_fields, frame_text, read_text, is_flagged, explained_text};
+ghost use Rattle.frame_text.specs.Explained.{put_fields, frame_text, read_text, is_flagged, explained_text};
 
-use crate::said;
-use frame_fields::numbers;
+use crate::said::refused;
+use fields::Reader;
+use frame_fields::numbers::{kind_of, numbers_of};
 use frame_kinds::kinds::Frame;
-use frame_kinds::{kinds, number};
-use frame_reading::Reading;
-use frame_words::table::Form;
+use frame_kinds::number::store_number;
+use frame_reading::read_frame;
+use frame_words::table::Field;
 use frame_words::texts::Text;
-use frame_words::{table, texts};
 
 const FLAG: u8 = 0x7E;
 
 // How many bytes `digits` hex digits make, at most 8.
 fn width_of(digits: u8) -> usize
-    ensures { (result ≡ width8 (digits / 2)) × (result ≤ 8) }
+    ensures is { result ≡ width8 (digits / 2) }
+    ensures most { result ≤ 8 }
 {
-    let w = (digits / 2) as usize;
-    if w < 8 {
-        return w;
-    }
-    8
+    usize::from(digits / 2).min(8)
 }
 
 // Adds a number in `digits` hex digits.
 #[tactic(auto, using(crate::proofs::ExplainingLaws::stored_bytes))]
-fn add_number(t: Text, digits: u8, v: u64) -> Text
-    ensures { result ≡ put t (hex_text (bytes_of (width8 (digits / 2)) v)) }
+fn add_number(text: &mut Text, digits: u8, v: u64)
+    ensures { text.new ≡ put text.old (hex_text (bytes_of (width8 (digits / 2)) v)) }
 {
-    let n = width_of(digits);
+    let width = width_of(digits);
     let mut bytes = [0u8; 8];
-    number::store_number(&mut bytes, 0, n, v);
-    texts::add_hex(t, &bytes[..n])
+    store_number(&mut bytes, 0, width, v);
+    text.add_hex(&bytes[..width]);
 }
 
-// Adds field `i` of a form, with its number.
-#[tactic(auto, unfolding(crate::specs::Explained::put_field))]
-fn add_field(t: Text, form: Form, i: usize, v: u64) -> Text
-    requires { i < 8 }
-    ensures { result ≡ put_field t (word_at form.names (i * 8), get_or form.digits i 0) v }
+// Adds fields, each with a space before it, and their numbers.
+#[tactic(auto, using(crate::proofs::ExplainingLaws::put_end))]
+fn add_fields(text: &mut Text, fields: &[Field], values: [u64; 8])
+    requires { length fields.now ≤ 8 }
+    ensures { text.new ≡ put_fields (fields_in fields.now) values 0 text.old }
 {
-    let names = form.names;
-    let digits = form.digits;
-    let u = texts::add_word(texts::add(t, b" "), &names, i * 8);
-    add_number(u, digits[i], v)
-}
-
-#[tactic(auto, using(crate::proofs::ExplainingLaws::put_turn, crate::proofs::ExplainingLaws::put_end))]
-fn add_fields(t: Text, form: Form, v: [u64; 8]) -> Text
-    requires { form.count ≤ 8 }
-    ensures { result ≡ put_fields (fields_in form) v 0 t }
-{
-    let count = form.count;
-    let mut u = t;
-    let mut i: usize = 0;
-    while i < count {
-        u = add_field(u, form, i, v[i]);
-        i += 1;
+    for (i, &(name, digits)) in fields.iter().enumerate() {
+        text.add(b" ");
+        text.add(name);
+        add_number(text, digits, values[i]);
     }
-    u
 }
 
-#[tactic(auto, using(frame_kinds::proofs::Parts::data_at_lem, crate::proofs::ExplainingLaws::data_most))]
-fn add_data(t: Text, f: Frame, bytes: &[u8]) -> Text
-    requires { 268 ≤ length bytes.now }
-    ensures { result ≡ put t (hex_text (data_in f bytes.now)) }
+// Adds a frame; its data bytes are in the application data.
+#[tactic(auto, using(frame_fields::proofs::RowLaws::fields_most, frame_kinds::proofs::Parts::data_at_lem, crate::proofs::ExplainingLaws::frame_data, crate::proofs::ExplainingLaws::frame_plain))]
+fn frame_text(text: &mut Text, addr: u8, f: Frame, app: &[u8])
+    ensures { text.new ≡ frame_text text.old addr f app.now }
 {
-    let from = kinds::data_place(f);
-    let end = from + kinds::data_len(f);
-    texts::add_hex(t, &bytes[from..end])
-}
-
-fn frame_text(t: Text, addr: u8, f: Frame, bytes: &[u8]) -> Text
-    requires { 268 ≤ length bytes.now }
-    ensures { result ≡ frame_text t addr f bytes.now }
-{
-    let kind = numbers::kind_of(f);
-    let form = table::form_of(kind);
-    let word = form.word;
-    let w = texts::add_word(t, &word, 0);
-    let u = add_fields(w, form, numbers::numbers_of(addr, f));
-    if table::has_data(kind) {
-        return add_data(texts::add(u, b" data="), f, bytes);
+    let kind = kind_of(f);
+    text.add(kind.word());
+    add_fields(text, kind.fields(), numbers_of(addr, f));
+    if kind.has_data() {
+        text.add(b" data=");
+        text.add_hex(Reader::new(app).at(f.data_place()).bytes(f.data_len()));
     }
-    u
 }
 
 // Adds the frame that is read from a body, or the refusal.
-#[tactic(auto, using(crate::proofs::ExplainingLaws::read_by))]
-fn read_text(t: Text, body: &[u8]) -> Text
-    ensures { result ≡ read_text t body.now }
+#[tactic(auto, unfolding(crate::specs::Explained::read_text))]
+fn read_text(text: &mut Text, body: &[u8])
+    ensures { text.new ≡ read_text text.old body.now }
 {
-    let r = frame_reading::read_frame(body);
-    let reading = r.reading;
-    let bytes = r.bytes;
-    match reading {
-        Reading::Valid(addr, f) => frame_text(t, addr, f, &bytes),
-        Reading::Length => said::refused(t, Reading::Length),
-        Reading::Stuffing => said::refused(t, Reading::Stuffing),
-        Reading::Size => said::refused(t, Reading::Size),
-        Reading::Fcs => said::refused(t, Reading::Fcs),
-        Reading::Reserved => said::refused(t, Reading::Reserved),
-        Reading::Kind => said::refused(t, Reading::Kind),
-        Reading::Form => said::refused(t, Reading::Form),
-        Reading::Check => said::refused(t, Reading::Check),
+    let mut bytes = [0u8; 272];
+    match read_frame(body, &mut bytes) {
+        Ok(received) => frame_text(text, received.addr, received.frame, received.app),
+        Err(fault) => refused(text, fault),
     }
 }
 
 // Whether the first byte and the last are flags.
-#[tactic(auto, using(crate::proofs::ExplainingLaws::flagged_short, crate::proofs::ExplainingLaws::flagged_is))]
+#[tactic(auto, using(crate::proofs::ExplainingLaws::flagged_short, crate::proofs::ExplainingLaws::flagged_is, crate::proofs::ExplainingLaws::flagged_not, crate::proofs::ExplainingLaws::flagged_open))]
 fn is_flagged(bytes: &[u8]) -> bool
     ensures { result ≡ is_flagged bytes.now }
 {
-    let n = bytes.len();
-    if n < 2 {
-        return false;
-    }
-    (bytes[0] == FLAG) & (bytes[n - 1] == FLAG)
+    matches!(bytes, [FLAG, .., FLAG])
 }
 
 // Explains a body, or a reply as a trace shows it: then the flags are left off.
 #[tactic(auto, using(crate::proofs::ExplainingLaws::flagged_long, crate::proofs::ExplainingLaws::no_flags))]
-pub fn explained(t: Text, bytes: &[u8]) -> Text
-    ensures { result ≡ explained_text t bytes.now }
+pub fn explained(text: &mut Text, bytes: &[u8])
+    ensures { text.new ≡ explained_text text.old bytes.now }
 {
     if is_flagged(bytes) {
-        let end = bytes.len() - 1;
-        return read_text(t, &bytes[1..end]);
+        read_text(text, &bytes[1..bytes.len() - 1]);
+    } else {
+        read_text(text, bytes);
     }
-    read_text(t, bytes)
 }

@@ -1,64 +1,98 @@
 // What is printed for a line that is wrong; and for a refusal, which is added to a text.
-ghost use Rattle.std.specs.Prelude.{◌≡◌, [], ◌∷◌, ◌*◌, ◌<◌, get_or};
-ghost use Rattle.frame_reading.specs.Reading.{reading_number};
-ghost use Rattle.frame_words.specs.Words.{word_at};
-ghost use Rattle.frame_text.specs.Said.{bad_start, bad_text, wants, refused_start, refused_reading};
+ghost use Rattle.std.specs.Prelude.{◌≡◌, [], ◌∷◌};
+ghost use Rattle.frame_words.specs.Texts.{puts};
+ghost use Rattle.frame_text.specs.Said.{bad_start, bad_text, words_of, refusal, refused_reading};
 
-use frame_reading::{Reading, reading_number};
-use frame_words::table::Form;
-use frame_words::texts;
+use frame_forms::FrameFault;
+use frame_reading::BodyFault;
+use frame_words::table::Field;
 use frame_words::texts::Text;
+use wire::LineFault;
 
-// The line's number and BAD; the first thing that is wrong comes after them.
+// What is wrong with a line.
+#[derive(Clone, Copy)]
+pub enum Wrong {
+    // the first word is no kind, nor `body`
+    Kind,
+    // a body that is not pairs of hex digits
+    Body,
+    // data that are not
+    Data,
+    // a field that is missing or wrong
+    Field(Field),
+    // more than the last field
+    More,
+}
+
+impl Wrong {
+    // Adds its words.
+    fn add_to(self, text: &mut Text)
+        ensures { text.new ≡ puts text.old (words_of self) }
+    {
+        match self {
+            Wrong::Kind => text.add(b"no such kind"),
+            Wrong::Body => text.add(b"body wants pairs of hex digits"),
+            Wrong::Data => text.add(b"data= wants pairs of hex digits"),
+            Wrong::Field((name, digits)) => {
+                text.add(name);
+                text.add(b" wants ");
+                text.add_number(digits.into());
+                text.add(b" hex digits");
+            }
+            Wrong::More => text.add(b"more behind the last field"),
+        }
+    }
+}
+
+// The line's number and BAD; what is wrong comes after them.
 fn bad_start(number: &[u8]) -> Text
     ensures { result ≡ bad_start number.now }
 {
-    let t = texts::add(texts::no_text(), number);
-    texts::add(t, b" BAD: ")
+    let mut text = Text::new();
+    text.add(number);
+    text.add(b" BAD: ");
+    text
 }
 
 pub fn bad(number: &[u8], words: &[u8]) -> Text
     ensures { result ≡ bad_text number.now (words.now ∷ []) }
 {
-    texts::add(bad_start(number), words)
+    let mut text = bad_start(number);
+    text.add(words);
+    text
 }
 
-// Field `i` of a form is missing or wrong.
-pub fn wants_digits(number: &[u8], form: Form, i: usize) -> Text
-    requires { i < 8 }
-    ensures { result ≡ bad_text number.now (wants (word_at form.names (i * 8)) (get_or form.digits i 0)) }
+// The same with the words for what is wrong.
+pub fn bad_line(number: &[u8], wrong: Wrong) -> Text
+    ensures { result ≡ bad_text number.now (words_of wrong) }
 {
-    let names = form.names;
-    let digits = form.digits;
-    let t = texts::add_word(bad_start(number), &names, i * 8);
-    let u = texts::add(t, b" wants ");
-    let v = texts::add_count(u, digits[i]);
-    texts::add(v, b" hex digits")
+    let mut text = bad_start(number);
+    wrong.add_to(&mut text);
+    text
 }
 
-// Adds document 01's number of a refusal.
-fn refused_start(t: Text, reading: Reading) -> Text
-    ensures { result ≡ refused_start t (reading_number reading) }
+// The words of a refusal.
+fn words_for(fault: BodyFault) -> &'static [u8]
+    ensures { result.now ≡ refusal fault }
 {
-    let u = texts::add(t, b"refused ");
-    let v = texts::add_count(u, reading_number(reading));
-    texts::add(v, b": ")
-}
-
-// The same, and its words.
-pub fn refused(t: Text, reading: Reading) -> Text
-    ensures { result ≡ refused_reading t reading }
-{
-    let u = refused_start(t, reading);
-    match reading {
-        Reading::Valid(_, _) => texts::add(u, b""),
-        Reading::Length => texts::add(u, b"body not 7 to 543 bytes"),
-        Reading::Stuffing => texts::add(u, b"stuffing"),
-        Reading::Size => texts::add(u, b"unstuffed length not 7 to 272"),
-        Reading::Fcs => texts::add(u, b"FCS"),
-        Reading::Reserved => texts::add(u, b"reserved address"),
-        Reading::Kind => texts::add(u, b"TYP not built"),
-        Reading::Form => texts::add(u, b"length, COM or sync address wrong for the TYP"),
-        Reading::Check => texts::add(u, b"safety CRC"),
+    match fault {
+        BodyFault::Line(LineFault::Length) => b"body not 7 to 543 bytes",
+        BodyFault::Line(LineFault::Stuffing) => b"stuffing",
+        BodyFault::Line(LineFault::Size) => b"unstuffed length not 7 to 272",
+        BodyFault::Line(LineFault::Check) => b"FCS",
+        BodyFault::Line(LineFault::Reserved) => b"reserved address",
+        BodyFault::Frame(FrameFault::Kind) => b"TYP not built",
+        BodyFault::Frame(FrameFault::Form) => b"length, COM or sync address wrong for the TYP",
+        BodyFault::Frame(FrameFault::Check) => b"safety CRC",
     }
+}
+
+// Adds document 01's number of a refusal, and its words.
+pub fn refused(text: &mut Text, fault: BodyFault)
+    ensures { text.new ≡ refused_reading text.old fault }
+{
+    text.add(b"refused ");
+    text.add_number(fault.number().into());
+    text.add(b": ");
+    text.add(words_for(fault));
 }

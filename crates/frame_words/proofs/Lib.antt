@@ -1,3 +1,3 @@
-pub mod FormLaws
 pub mod WordLaws
+pub mod CalledLaws
 pub mod TextLaws

@@ -1,12 +1,14 @@
 -- The kinds of frames by their words, and the fields of each in the order of a line. Assumes nothing.
-use Rattle.std.specs.Prelude.{Bool, true, false, List, [], ◌∷◌, map, ℕ, zero, suc, ◌+◌, ◌*◌, length, replicate, get_or}
+use Rattle.std.specs.Prelude.{Bool, true, false, List, [], ◌∷◌, ℕ}
+use Rattle.std.specs.Borrow.{Bor}
 use Prim.Native.String.{String}
-use Rattle.std.proofs.lemmas.List.Edits.{sets}
 use Rattle.frame_words.specs.Chars.{chars}
-use Rattle.frame_words.specs.Words.{word_at}
 use Rattle.frame_words.specs.declared.table.Kind.{Kind}
 use Rattle.frame_words.specs.declared.table.Kind.TheVariants.{Sync, Read, Write, PlainRead, PlainWrite, Response, PlainSyncResponse, PlainResponse, Tid, Sid, Sid4, Ack, Invariants}
-use Rattle.frame_words.specs.declared.table.Form.{Form}
+
+-- all kinds, in the order of the grammar
+unfoldable pub kinds : List Kind
+kinds = Sync ∷ Read ∷ Write ∷ PlainRead ∷ PlainWrite ∷ Response ∷ PlainSyncResponse ∷ PlainResponse ∷ Tid ∷ Sid ∷ Sid4 ∷ Ack ∷ Invariants ∷ []
 
 abbrev pub kind_word : Kind → List ℕ
 kind_word Sync = chars "sync"
@@ -62,23 +64,7 @@ has_data Sid4 = false
 has_data Ack = false
 has_data Invariants = false
 
--- ---- how the code holds a list of fields: each name has 8 columns of a text
-abbrev pub fields_from : List ℕ → List ℕ → ℕ → ℕ → List Field
-fields_from names digits i zero = []
-fields_from names digits i (suc n) = (word_at names (i * 8), get_or digits i 0) ∷ fields_from names digits (i + 1) n
-
-abbrev pub fields_in : Form → List Field
-fields_in f = fields_from f.names f.digits 0 f.count
-
--- and the other way: the word and the fields of a kind as the code holds them, with spaces and zeros after the last
-abbrev in_columns : List Field → ℕ → List ℕ → List ℕ
-in_columns [] i names = names
-in_columns (f ∷ fs) i names = in_columns fs (i + 1) (sets names (i * 8) f.0)
-
-abbrev pub form_of : Kind → Form
-form_of k = record {
-  word = sets (replicate 20 0x20) 0 (kind_word k);
-  names = in_columns (fields_of k) 0 (replicate 64 0x20);
-  digits = sets (replicate 8 0) 0 (map (λ f. f.1) (fields_of k));
-  count = length (fields_of k);
-}
+-- ---- how the code holds fields: each name behind a reference
+abbrev pub fields_in : List (Bor (List ℕ) × ℕ) → List Field
+fields_in [] = []
+fields_in (f ∷ fs) = (f.0.now, f.1) ∷ fields_in fs

@@ -1,27 +1,22 @@
 -- A text put together piece by piece: each is added whole, or not at all if it does not fit. Assumes nothing.
-use Rattle.std.specs.Prelude.{List, [], ◌∷◌, ℕ, length, replicate, take}
-use Rattle.text.specs.Putting.{put_at, place_after}
-use Rattle.frame_words.specs.declared.texts.Text.{Text}
+use Rattle.std.specs.Prelude.{List, [], ◌∷◌, ℕ}
+use Rattle.text.specs.Texts.{with_piece}
+
+abbrev pub Text : Type 0
+Text = List ℕ
 
 -- room for a line of 1,200 characters with its LF, and for the page of the grammar
 abbrev pub room : ℕ
 room = 2048
 
-unfoldable pub no_text : Text
-no_text = record { bytes = replicate room 0; len = 0 }
-
-unfoldable pub put : Text → List ℕ → Text
-put t s = record { bytes = put_at t.bytes t.len s; len = place_after (length t.bytes) t.len s }
+abbrev pub put : List ℕ → List ℕ → List ℕ
+put t s = with_piece room t s
 
 -- a text as a line, with its LF
-abbrev pub end_line : Text → Text
+abbrev pub end_line : List ℕ → List ℕ
 end_line t = put t (0x0A ∷ [])
 
--- what was put together
-abbrev pub text_in : Text → List ℕ
-text_in t = take t.len t.bytes
-
 -- pieces, one after another
-abbrev pub puts : Text → List (List ℕ) → Text
+abbrev pub puts : List ℕ → List (List ℕ) → List ℕ
 puts t [] = t
 puts t (s ∷ ss) = puts (put t s) ss

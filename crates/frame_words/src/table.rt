@@ -1,8 +1,8 @@
 // The kinds of frames by their words, and the fields of each in the order of a line.
 ghost use Rattle.std.specs.Prelude.{◌≡◌};
-ghost use Rattle.frame_words.specs.Table.{form_of, has_data};
+ghost use Rattle.frame_words.specs.Table.{kinds, kind_word, fields_in, fields_of, has_data};
 
-#[derive(Clone, Copy)]
+#[derive(Clone, Copy, PartialEq, Eq, Debug)]
 pub enum Kind {
     Sync,
     Read,
@@ -19,118 +19,136 @@ pub enum Kind {
     Invariants,
 }
 
-// A kind's word, and its fields except the data: their names, in eight columns each; how many hex digits each has; and
-// how many fields there are.
-#[derive(Clone, Copy)]
-pub struct Form {
-    pub word: [u8; 20],
-    pub names: [u8; 64],
-    pub digits: [u8; 8],
-    pub count: usize,
+// A field: its name with the '=', and how many hex digits it has.
+pub type Field = (&'static [u8], u8);
+
+// All kinds, in the order of the grammar.
+#[tactic(auto, unfolding(crate::specs::Table::kinds))]
+pub fn kinds() -> &'static [Kind]
+    ensures { result.now ≡ kinds }
+{
+    &[
+        Kind::Sync,
+        Kind::Read,
+        Kind::Write,
+        Kind::PlainRead,
+        Kind::PlainWrite,
+        Kind::Response,
+        Kind::PlainSyncResponse,
+        Kind::PlainResponse,
+        Kind::Tid,
+        Kind::Sid,
+        Kind::Sid4,
+        Kind::Ack,
+        Kind::Invariants,
+    ]
 }
 
-pub fn form_of(kind: Kind) -> Form
-    ensures { result ≡ form_of kind }
-{
-    match kind {
-        Kind::Sync => Form {
-            word: *b"sync                ",
-            names: *b"src=    cyc=                                                    ",
-            digits: [6, 2, 0, 0, 0, 0, 0, 0],
-            count: 2,
-        },
-        Kind::Read => Form {
-            word: *b"read                ",
-            names: *b"to=     dest=   src=    cyc=    seq=    len=    at=             ",
-            digits: [2, 6, 6, 2, 2, 2, 2, 0],
-            count: 7,
-        },
-        Kind::Write => Form {
-            word: *b"write               ",
-            names: *b"to=     dest=   src=    cyc=    seq=    at=                     ",
-            digits: [2, 6, 6, 2, 2, 2, 0, 0],
-            count: 6,
-        },
-        Kind::PlainRead => Form {
-            word: *b"plain-read          ",
-            names: *b"to=     src=    len=    at=                                     ",
-            digits: [2, 2, 2, 2, 0, 0, 0, 0],
-            count: 4,
-        },
-        Kind::PlainWrite => Form {
-            word: *b"plain-write         ",
-            names: *b"to=     src=    at=                                             ",
-            digits: [2, 2, 2, 0, 0, 0, 0, 0],
-            count: 3,
-        },
-        Kind::Response => Form {
-            word: *b"response            ",
-            names: *b"to=     dest=   src=    cyc=    seq=    com=    at=     stat=   ",
-            digits: [2, 6, 6, 2, 2, 2, 2, 2],
-            count: 8,
-        },
-        Kind::PlainSyncResponse => Form {
-            word: *b"plain-sync-response ",
-            names: *b"to=     src=    at=     stat=                                   ",
-            digits: [2, 2, 2, 2, 0, 0, 0, 0],
-            count: 4,
-        },
-        Kind::PlainResponse => Form {
-            word: *b"plain-response      ",
-            names: *b"to=     src=    com=    at=                                     ",
-            digits: [2, 2, 2, 2, 0, 0, 0, 0],
-            count: 4,
-        },
-        Kind::Tid => Form {
-            word: *b"tid                 ",
-            names: *b"to=     src=    iid=    tid=                                    ",
-            digits: [2, 2, 16, 2, 0, 0, 0, 0],
-            count: 4,
-        },
-        Kind::Sid => Form {
-            word: *b"sid                 ",
-            names: *b"to=     src=    sec=    mac=    sid=                            ",
-            digits: [2, 6, 8, 16, 6, 0, 0, 0],
-            count: 5,
-        },
-        Kind::Sid4 => Form {
-            word: *b"sid4                ",
-            names: *b"to=     src=    sec=    mac=    sid=    sid2=   src2=           ",
-            digits: [2, 6, 8, 16, 6, 6, 6, 0],
-            count: 7,
-        },
-        Kind::Ack => Form {
-            word: *b"ack                 ",
-            names: *b"to=     src=    dst=    sec=    mac=                            ",
-            digits: [2, 6, 6, 8, 16, 0, 0, 0],
-            count: 5,
-        },
-        Kind::Invariants => Form {
-            word: *b"invariants          ",
-            names: *b"to=     dest=   src=    cyc=    seq=    config= logic=          ",
-            digits: [2, 6, 6, 2, 2, 4, 4, 0],
-            count: 7,
-        },
+impl Kind {
+    pub fn word(self) -> &'static [u8]
+        ensures { result.now ≡ kind_word self }
+    {
+        match self {
+            Kind::Sync => b"sync",
+            Kind::Read => b"read",
+            Kind::Write => b"write",
+            Kind::PlainRead => b"plain-read",
+            Kind::PlainWrite => b"plain-write",
+            Kind::Response => b"response",
+            Kind::PlainSyncResponse => b"plain-sync-response",
+            Kind::PlainResponse => b"plain-response",
+            Kind::Tid => b"tid",
+            Kind::Sid => b"sid",
+            Kind::Sid4 => b"sid4",
+            Kind::Ack => b"ack",
+            Kind::Invariants => b"invariants",
+        }
     }
-}
 
-// Whether the kind has data=, which is always the last field.
-pub fn has_data(kind: Kind) -> bool
-    ensures { result ≡ has_data kind }
-{
-    match kind {
-        Kind::Sync => false,
-        Kind::Read => false,
-        Kind::Write => true,
-        Kind::PlainRead => false,
-        Kind::PlainWrite => true,
-        Kind::Response => true,
-        Kind::PlainSyncResponse => true,
-        Kind::PlainResponse => true,
-        Kind::Tid => false,
-        Kind::Sid => false,
-        Kind::Sid4 => false,
-        Kind::Ack => false,
-        Kind::Invariants => false,
+    // The fields except the data.
+    pub fn fields(self) -> &'static [Field]
+        ensures { fields_in result.now ≡ fields_of self }
+    {
+        match self {
+            Kind::Sync => &[(b"src=", 6), (b"cyc=", 2)],
+            Kind::Read => &[
+                (b"to=", 2),
+                (b"dest=", 6),
+                (b"src=", 6),
+                (b"cyc=", 2),
+                (b"seq=", 2),
+                (b"len=", 2),
+                (b"at=", 2),
+            ],
+            Kind::Write => &[
+                (b"to=", 2),
+                (b"dest=", 6),
+                (b"src=", 6),
+                (b"cyc=", 2),
+                (b"seq=", 2),
+                (b"at=", 2),
+            ],
+            Kind::PlainRead => &[(b"to=", 2), (b"src=", 2), (b"len=", 2), (b"at=", 2)],
+            Kind::PlainWrite => &[(b"to=", 2), (b"src=", 2), (b"at=", 2)],
+            Kind::Response => &[
+                (b"to=", 2),
+                (b"dest=", 6),
+                (b"src=", 6),
+                (b"cyc=", 2),
+                (b"seq=", 2),
+                (b"com=", 2),
+                (b"at=", 2),
+                (b"stat=", 2),
+            ],
+            Kind::PlainSyncResponse => &[(b"to=", 2), (b"src=", 2), (b"at=", 2), (b"stat=", 2)],
+            Kind::PlainResponse => &[(b"to=", 2), (b"src=", 2), (b"com=", 2), (b"at=", 2)],
+            Kind::Tid => &[(b"to=", 2), (b"src=", 2), (b"iid=", 16), (b"tid=", 2)],
+            Kind::Sid => &[
+                (b"to=", 2),
+                (b"src=", 6),
+                (b"sec=", 8),
+                (b"mac=", 16),
+                (b"sid=", 6),
+            ],
+            Kind::Sid4 => &[
+                (b"to=", 2),
+                (b"src=", 6),
+                (b"sec=", 8),
+                (b"mac=", 16),
+                (b"sid=", 6),
+                (b"sid2=", 6),
+                (b"src2=", 6),
+            ],
+            Kind::Ack => &[
+                (b"to=", 2),
+                (b"src=", 6),
+                (b"dst=", 6),
+                (b"sec=", 8),
+                (b"mac=", 16),
+            ],
+            Kind::Invariants => &[
+                (b"to=", 2),
+                (b"dest=", 6),
+                (b"src=", 6),
+                (b"cyc=", 2),
+                (b"seq=", 2),
+                (b"config=", 4),
+                (b"logic=", 4),
+            ],
+        }
+    }
+
+    // Whether the kind has data=, which is always the last field.
+    pub fn has_data(self) -> bool
+        ensures { result ≡ has_data self }
+    {
+        matches!(
+            self,
+            Kind::Write
+                | Kind::PlainWrite
+                | Kind::Response
+                | Kind::PlainSyncResponse
+                | Kind::PlainResponse
+        )
     }
 }

@@ -10,8 +10,7 @@ use lib.ListN.{length, take, drop, length-append, length-drop, take-append-drop}
 use lib.Seq.{take_at, take_all}
 use Rattle.base.specs.Bytes.{Bytes, bytes_of, number_at}
 use Rattle.base.proofs.Numbers.{length_bytes_of, number_behind, number_of_bytes, bytes_of_number}
-use Rattle.crc.specs.Crc.{crc_of}
-use Rattle.crc.specs.declared.Poly.TheVariants.{Safety}
+use Rattle.crc.specs.Crc.{crc_of, Safety}
 use Rattle.crc.proofs.Bound.{of_lt}
 use Rattle.frame_kinds.specs.Kinds.{sealed}
 use Rattle.frame_forms.specs.Forms.{safe_ok}

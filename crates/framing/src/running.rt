@@ -1,46 +1,28 @@
 // Standard input, line by line, to standard output.
-ghost use Rattle.std.specs.Prelude.{◌≡◌, ◌≤◌, true, length, take, nat_lt, IfOk, OnErr};
-ghost use Rattle.base.specs.Choice.{choose};
-ghost use Rattle.text.specs.Putting.{put_at, place_after};
-ghost use Rattle.frame_words.specs.Texts.{room, text_in};
-ghost use Rattle.console.specs.Answering.{Whole, Waits, Begun};
-ghost use Rattle.console.specs.Programs.{answers, transcript};
-ghost use Rattle.framing.specs.Answers.{answer_of, over_text};
-ghost use Rattle.framing.specs.Running.{number_of, answered_in, end_text};
+ghost use Rattle.std.specs.Prelude.{◌≡◌, ◌++◌, OnOk, OnErr};
+ghost use Rattle.console.specs.Handing.{HasRoom, Printed, PrintedFront};
+ghost use Rattle.console.specs.Programs.{transcript};
+ghost use Rattle.console.specs.Speaking.{spoken};
+ghost use Rattle.framing.specs.Answers.{answer_of};
+ghost use Rattle.framing.specs.Running.{number_text, end_text};
 ghost use Rattle.framing.specs.Running.{answering as Running·answering};
 
-use crate::answering;
-use console::lines::Cursor;
-use console::{blocks, lines};
-use frame_words::texts;
+use crate::answering::answer;
+use console::answering;
+use console::answering::Answerer;
+use console::pages::Page;
 use frame_words::texts::Text;
 use std::io;
 use std::io::{Read, Write};
 
-// The answer to a line of `len` characters, of which the buffer keeps the first.
-fn answer_to(number: &[u8], line: &[u8], len: usize) -> Text
-    ensures { result ≡ choose (nat_lt (length line.now) len) (over_text number.now) (answer_of number.now (take len line.now)) }
+// The answer to the line that comes after `before` others.
+#[tactic(auto, unfolding(crate::specs::Running::number_text))]
+fn answer_after(before: u64, line: &[u8]) -> Text
+    ensures { result ≡ answer_of (number_text before) line.now }
 {
-    if line.len() < len {
-        return answering::over(number);
-    }
-    answering::answer(number, &line[..len])
-}
-
-fn next_number(before: u64) -> u64
-    ensures { result ≡ number_of before }
-{
-    std::num::wrapping_add_u64(before, 1)
-}
-
-// The same for the line that comes after `before` others.
-fn answer_in(before: u64, line: &[u8], len: usize) -> Text
-    ensures { result ≡ answered_in before line.now len }
-{
-    let number = texts::add_number(texts::no_text(), next_number(before));
-    let digits = number.bytes;
-    let k = blocks::least(digits.len(), number.len);
-    answer_to(&digits[..k], line, len)
+    let mut number = Text::new();
+    number.add_number(before.wrapping_add(1));
+    answer(number.as_slice(), line)
 }
 
 // The text at the end of the input: the grammar, if there was no line.
@@ -51,58 +33,48 @@ fn end_text(lines: u64) -> Text
     if lines == 0 {
         return frame_grammar::grammar_text();
     }
-    texts::no_text()
+    Text::new()
 }
 
-// Puts a text at index `at` of the output; returns the next index.
-#[tactic(auto, using(crate::proofs::RunningLaws::text_fits))]
-fn put(t: Text, out: &mut [u8], at: usize) -> usize
-    ensures { (length (text_in t) ≤ room) × (result ≡ place_after (length out.old) at (text_in t)) × (out.new ≡ put_at out.old at (text_in t)) }
+// Puts a text on the page.
+fn put(page: &mut Page, text: &Text)
+    requires { HasRoom page.old }
+    ensures { page.new ≡ page.old ++ text.now }
 {
-    let bytes = t.bytes;
-    blocks::put_first(out, at, &bytes, t.len)
+    page.put(text.as_slice());
 }
 
-// The answers to all lines, and the text at the end. They are handed on when the output is full; the last of them are
-// still in the output on return. No run has as many lines as the count can hold. An error of the input or the output
-// ends the work; what was written is a beginning of what is printed for some input.
-fn answer_all<R: Read, W: Write>(
-    input: &mut R,
-    output: &mut W,
-    block: &mut [u8; 65536],
-    line: &mut [u8; 1200],
-    out: &mut [u8; 16384],
-) -> io::Result<Cursor>
-    ensures ok { IfOk result (λ c. c.ended ≡ true → Whole Running·answering block.new out.new c) }
-    ensures waits { IfOk result (λ c. Waits (transcript Running·answering) (W.contents output.old) (W.contents output.new) (take c.to out.new)) }
-    ensures err { OnErr result (Begun (answers Running·answering) (W.contents output.old) (W.contents output.new)) }
-{
-    let mut count: u64 = 0;
-    let mut c = lines::begin(0);
-    while count < u64::MAX {
-        c = lines::next_line(input, output, block, line, out, c)?;
-        if !c.whole {
-            if !c.ended {
-                return Ok(c);
-            }
-            c.to = put(end_text(count), out, c.to);
-            return Ok(c);
-        }
-        c.to = put(answer_in(count, line, c.len), out, c.to);
-        count = next_number(count);
+// How many lines were answered. No run has as many as the count can hold.
+#[derive(Drop)]
+struct Framing {
+    lines: u64,
+}
+
+impl Answerer for Framing {
+    ghost says = { λ p lines. spoken Running·answering p.lines lines };
+
+    fn is_done(&self) -> bool {
+        false
     }
-    Ok(c)
+
+    fn answer(&mut self, line: &[u8], page: &mut Page) {
+        put(page, &answer_after(self.lines, line));
+        self.lines = self.lines.wrapping_add(1);
+    }
+
+    fn finish(&mut self, page: &mut Page) {
+        put(page, &end_text(self.lines));
+    }
 }
 
-// The same, and the answers that are still in the output are written. Whatever it returns, what was written is a
-// beginning of what is printed for some input.
+// Prints the answers to all lines, and the text at the end. An error of the input or the output ends the work; what was written is a
+// beginning of what is printed.
 pub fn run<R: Read, W: Write>(input: &mut R, output: &mut W) -> io::Result<()>
-    ensures { Begun (transcript Running·answering) (W.contents output.old) (W.contents output.new) }
+    ensures ok { OnOk result (Printed (transcript Running·answering) (R.remaining input.old) (R.remaining input.new)
+        (W.contents output.old) (W.contents output.new)) }
+    ensures err { OnErr result (PrintedFront (transcript Running·answering) (R.remaining input.old) (R.remaining input.new)
+        (W.contents output.old) (W.contents output.new)) }
 {
-    let mut block = blocks::no_input();
-    let mut line = text::lines::no_line();
-    let mut out = blocks::no_output();
-    let c = answer_all(input, output, &mut block, &mut line, &mut out)?;
-    lines::close(output, &out, c)?;
-    Ok(())
+    let mut framing = Framing { lines: 0 };
+    answering::run(&mut framing, Page::new(), input, output)
 }

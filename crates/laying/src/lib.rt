@@ -2,19 +2,27 @@
 // down undo each other.
 #![tactic(auto)]
 
-ghost use Rattle.std.specs.Prelude.{◌≡◌, ◌++◌, ◌≤◌, ltb, length, drop};
+ghost use Rattle.std.specs.Prelude.{◌≡◌, [], ◌∷◌, ◌++◌, ◌/◌, ◌%◌, ◌≤◌, ltb, length, drop};
 ghost use Rattle.std.proofs.lemmas.List.Edits.{sets};
-ghost use Rattle.laying.specs.Laying.{body_with, line_with, line_of, laid_of, left_by, laid_answer, answer_to_laying};
+ghost use Rattle.laying.specs.Laying.{body_with, line_with, line_of, laid_of, left_by, number_of, laid_answer, answer_to_laying};
 
 use stuffing::FLAG;
+
+// The FCS as it is sent, high byte first.
+fn fcs_bytes(check: u16) -> [u8; 2]
+    ensures { result ≡ check / 256 ∷ check % 256 ∷ [] }
+{
+    check.to_be_bytes()
+}
 
 // Lays down the body with a given FCS at the start of the buffer; returns its length.
 #[tactic(auto, using(crate::proofs::LayingLaws::body_length_lem, crate::proofs::LayingLaws::body_laid))]
 fn lay_body(dst: &mut [u8], addr: u8, data: &[u8], check: u16) -> usize
     requires { length (body_with check addr «data».now) ≤ length dst.old }
-    ensures { (result ≡ length (body_with check addr «data».now)) × (dst.new ≡ sets dst.old 0 (body_with check addr «data».now)) }
+    ensures length { result ≡ length (body_with check addr «data».now) }
+    ensures stored { dst.new ≡ sets dst.old 0 (body_with check addr «data».now) }
 {
-    let sent = [(check >> 8) as u8, (check % 256) as u8];
+    let sent = fcs_bytes(check);
     dst[0] = addr;
     let n = stuffing::stuff_at(data, dst, 1);
     stuffing::stuff_at(&sent, dst, n)
@@ -24,7 +32,8 @@ fn lay_body(dst: &mut [u8], addr: u8, data: &[u8], check: u16) -> usize
 #[tactic(auto, using(crate::proofs::LayingLaws::line_length, crate::proofs::LayingLaws::line_laid))]
 fn lay_line(buf: &mut [u8], addr: u8, data: &[u8], check: u16) -> usize
     requires { length (line_with check addr «data».now) ≤ length buf.old }
-    ensures { (result ≡ length (line_with check addr «data».now)) × (buf.new ≡ line_with check addr «data».now ++ drop (length (line_with check addr «data».now)) buf.old) }
+    ensures length { result ≡ length (line_with check addr «data».now) }
+    ensures stored { buf.new ≡ line_with check addr «data».now ++ drop (length (line_with check addr «data».now)) buf.old }
 {
     buf[0] = FLAG;
     let n = lay_body(&mut buf[1..], addr, data, check);
@@ -38,7 +47,7 @@ fn line_len(addr: u8, data: &[u8], check: u16) -> usize
     requires { length «data».now ≤ 269 }
     ensures { result ≡ length (line_with check addr «data».now) }
 {
-    let sent = [(check >> 8) as u8, (check % 256) as u8];
+    let sent = fcs_bytes(check);
     3 + stuffing::stuffed_len(data) + stuffing::stuffed_len(&sent)
 }
 
@@ -57,44 +66,46 @@ fn lacks_room(room: usize, addr: u8, data: &[u8], check: u16) -> bool
     room < line_len(addr, data, check)
 }
 
-// The result of laying down: the length on the line, or number 5, 8 or 20.
-#[derive(Clone, Copy)]
-pub enum Laid {
-    Sent(usize),
+// Why application data are not laid down.
+#[derive(Clone, Copy, Debug, PartialEq, Eq)]
+pub enum Unfit {
+    // an address that no station may have
     Reserved,
+    // not 4 to 269 bytes
     Form,
+    // the buffer is too short
     Room,
 }
 
-// Document 01's number.
-pub fn laid_number(laid: Laid) -> u8
-    ensures { result ≡ (laid_answer laid).0 }
-{
-    match laid {
-        Laid::Sent(_) => 0,
-        Laid::Reserved => 5,
-        Laid::Form => 8,
-        Laid::Room => 20,
+impl Unfit {
+    // Document 01's number.
+    pub fn number(self) -> u8
+        ensures { result ≡ number_of self }
+    {
+        match self {
+            Unfit::Reserved => 5,
+            Unfit::Form => 8,
+            Unfit::Room => 20,
+        }
     }
 }
 
-// Lays down application data for an address, or refuses them and leaves the buffer untouched.
-#[tactic(auto, using(crate::proofs::LayingLaws::laid_reserved, crate::proofs::LayingLaws::laid_short, crate::proofs::LayingLaws::laid_long, crate::proofs::LayingLaws::laid_room, crate::proofs::LayingLaws::laid_sent))]
-pub fn lay(buf: &mut [u8], addr: u8, data: &[u8]) -> Laid
-    ensures { (result ≡ laid_of (length buf.old) addr «data».now) × (buf.new ≡ left_by result (line_of addr «data».now) buf.old) × (laid_answer result ≡ answer_to_laying (length buf.old) addr «data».now) }
+// Lays down application data for an address, and returns the length on the line, or leaves the buffer untouched.
+#[tactic(auto, unfolding(crate::specs::Laying::laid_of))]
+pub fn lay(buf: &mut [u8], addr: u8, data: &[u8]) -> Result<usize, Unfit>
+    ensures laid { result ≡ laid_of (length buf.old) addr «data».now }
+    ensures left { buf.new ≡ left_by result (line_of addr «data».now) buf.old }
+    ensures answer { laid_answer result ≡ answer_to_laying (length buf.old) addr «data».now }
 {
     if wire::reserved(addr) {
-        return Laid::Reserved;
+        return Err(Unfit::Reserved);
     }
-    if data.len() < 4 {
-        return Laid::Form;
-    }
-    if 269 < data.len() {
-        return Laid::Form;
+    if data.len() < 4 || 269 < data.len() {
+        return Err(Unfit::Form);
     }
     let check = wire::fcs(addr, data);
     if lacks_room(buf.len(), addr, data, check) {
-        return Laid::Room;
+        return Err(Unfit::Room);
     }
-    Laid::Sent(lay_line(buf, addr, data, check))
+    Ok(lay_line(buf, addr, data, check))
 }

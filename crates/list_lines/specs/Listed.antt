@@ -1,6 +1,5 @@
 -- The lines of a list that are not frames by their fields: those that print nothing, and a script's own. Assumes nothing.
-use Rattle.std.specs.Prelude.{Bool, true, false, ◌&&◌, ◌||◌, List, [], ℕ, eqb, ltb, length, drop, get_or}
-use Rattle.std.proofs.Math.Option.{Option, none, some}
+use Rattle.std.specs.Prelude.{Bool, true, false, ◌&&◌, ◌||◌, List, [], ℕ, eqb, ltb, length, drop, get_or, None, Option, Some}
 use Rattle.base.specs.Choice.{within}
 use Rattle.text.specs.Hex.{hex_pairs}
 use Rattle.frame_words.specs.Chars.{chars}
@@ -20,8 +19,8 @@ has_port s = ltb 1 (length s) && (within 0x30 0x39 (get_or s 0 0) && eqb (get_or
 
 -- only pairs of hex digits, perhaps none, from index i on
 abbrev pub are_pairs : Option (List ℕ) → Bool
-are_pairs none = false
-are_pairs (some bs) = true
+are_pairs None = false
+are_pairs (Some bs) = true
 
 unfoldable pub pairs_from : List ℕ → ℕ → Bool
 pairs_from s i = are_pairs (hex_pairs (drop i s))

@@ -3,10 +3,9 @@
 use Rattle.std.proofs.Common.{◌≡◌, ℕ, zero, suc, ◌+◌, ◌%◌, ◌^◌, ◌<◌, ◌≤◌, Bool, true, false, leb, List, [], ◌∷◌, ◌++◌, length, take, sym, refl, ap, ◌∙◌, ap₂, append_assoc, append-nil, mod-eq_of_lt, arith, le-leb}
 use borrow.Author.Tests.{lt-leb}
 use Rattle.base.proofs.Choosing.{choose_true, choose_false}
-use Rattle.console.specs.Answering.{Quiet}
 use Rattle.console.specs.Lines.{lines_of}
-use Rattle.console.specs.Programs.{next_all, says_all, transcript}
-use Rattle.console.proofs.AnsweringLaws.{quiet_rest}
+use Rattle.console.specs.Programs.{Quiet, next_all, says_all, transcript}
+use Rattle.console.proofs.SpeakingLaws.{quiet_rest}
 use Rattle.rules.specs.State.{t_of}
 use Rattle.script_lines.specs.Forms.{line_of}
 use Rattle.script_lines.specs.Doing.{script_module, done}

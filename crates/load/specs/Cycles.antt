@@ -1,9 +1,7 @@
 -- Document 02, request 9: the cycles of a script, and what is printed of them, over the list of its lines. Assumes nothing.
-use Rattle.std.specs.Prelude.{ℕ, ◌+◌, Bool, false, ◌&&◌, List, [], ◌∷◌, ◌++◌, length, take}
+use Rattle.std.specs.Prelude.{ℕ, ◌+◌, Bool, false, ◌&&◌, Ok, Err, List, [], ◌∷◌, ◌++◌, length, take}
 use Rattle.base.specs.Choice.{choose}
-use Rattle.frame_reading.specs.Reading.{read_frame}
-use Rattle.frame_reading.specs.declared.Reading.{Reading}
-use Rattle.frame_reading.specs.declared.Reading.TheVariants as reading
+use Rattle.frame_reading.specs.Reading.{ReadFrame, read_frame}
 use Rattle.rules.specs.Answers.{is_accepted}
 use Rattle.rules.specs.Refusals.{is_sync}
 use Rattle.rules.specs.State.{t_of}
@@ -16,21 +14,14 @@ use Rattle.load.specs.declared.cycles.Counted.{Counted}
 
 -- ---- what each line does
 -- what the reader of frames reads as a sync
-abbrev pub is_sync_read : Reading → Bool
-is_sync_read (reading.Valid a f) = is_sync f
-is_sync_read reading.Length = false
-is_sync_read reading.Stuffing = false
-is_sync_read reading.Size = false
-is_sync_read reading.Fcs = false
-is_sync_read reading.Reserved = false
-is_sync_read reading.Kind = false
-is_sync_read reading.Form = false
-is_sync_read reading.Check = false
+abbrev pub is_sync_read : ReadFrame → Bool
+is_sync_read (Ok (a, f, xs)) = is_sync f
+is_sync_read (Err e) = false
 
 -- an accepted sync: a frame that is accepted, whose body is read as a sync
 abbrev pub is_opening : Step → ℕ → Bool
 is_opening (ticks n) answer = false
-is_opening (frame port body) answer = is_accepted answer && is_sync_read (read_frame body).reading
+is_opening (frame port body) answer = is_accepted answer && is_sync_read (read_frame body)
 is_opening (inputs xs) answer = false
 is_opening bad answer = false
 

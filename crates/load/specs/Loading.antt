@@ -1,15 +1,12 @@
 -- The line load line by line: the module, the lines so far and the cycle that is open. Assumes nothing.
-use Rattle.std.specs.Prelude.{◌≡◌, ℕ, ◌+◌, ◌%◌, ◌^◌, Bool, true, List, [], ◌++◌, take, nat_le}
+use Rattle.std.specs.Prelude.{ℕ, ◌+◌, ◌%◌, ◌^◌, Bool, List, [], nat_le}
 use Rattle.base.specs.Choice.{choose}
-use Rattle.console.specs.Lines.{lines_of, joined}
 use Rattle.console.specs.Programs.{Program}
-use Rattle.console.specs.Reading.{block}
-use Rattle.console.specs.declared.lines.Cursor.{Cursor}
 use Rattle.script_lines.specs.Forms.{Step, line_of}
 use Rattle.script_lines.specs.Doing.{script_module, done}
 use Rattle.load_text.specs.Printing.{no_cycle, open_text}
 use Rattle.load_text.specs.declared.Cycle.{Cycle}
-use Rattle.load.specs.Cycles.{counted, most_lines, load_text}
+use Rattle.load.specs.Cycles.{counted, most_lines}
 use Rattle.load.specs.declared.cycles.Counted.{Counted}
 use Rattle.load.specs.declared.cycles.Loading.{Loading}
 
@@ -49,10 +46,3 @@ loading = record {
   says = λ p l. shown p (line_of l);
   ends = λ p. open_text p.cycle;
 }
-
--- THE PROMISE: what was handed on, then what is in the output, is the line load of the input: of the blocks that were read and, if
--- the input has not ended, of whatever follows them
-pub record Loads (buffer out : List ℕ) (c : Cursor) : Type 0 where
-  pub before : List (List ℕ)
-  pub handed : List ℕ
-  pub text : (xs : List ℕ) → (c.ended ≡ true → xs ≡ []) → handed ++ take c.to out ≡ load_text (lines_of (joined before ++ (block c buffer ++ xs)))

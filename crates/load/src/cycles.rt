@@ -1,17 +1,19 @@
 // A script, line by line: the cycle that is open, and the one that a line ends.
-ghost use Rattle.std.specs.Prelude.{◌≡◌, ◌≤◌, length, take};
-ghost use Rattle.text.specs.Putting.{put_at, place_after};
+ghost use Rattle.std.specs.Prelude.{◌≡◌, ◌++◌};
+ghost use Rattle.console.specs.Handing.{HasRoom};
 ghost use Rattle.frame_reading.specs.Reading.{read_frame};
 ghost use Rattle.rules.specs.Refusals.{is_sync};
-ghost use Rattle.script_lines.specs.Forms.{line_in, step_in};
+ghost use Rattle.agent_state.specs.Refusing.{answer_of};
+ghost use Rattle.script_lines.specs.Forms.{line_of, step_in};
+ghost use Rattle.load_text.specs.Printing.{open_text};
 ghost use Rattle.load.specs.Cycles.{is_sync_read, is_opening};
 ghost use Rattle.load.specs.Loading.{start, cycle_after, after, ended_text, shown};
 
-use agent_state::answers::ACCEPTED;
+use agent_state::refusal::Refusal;
 use agent_state::registers::TCYC;
-use console::blocks::least;
+use console::pages::Page;
 use frame_kinds::kinds::Frame;
-use frame_reading::{Reading, read_frame};
+use frame_reading::read_frame;
 use load_text::{Cycle, put_cycle};
 use rules::Agent;
 use script_lines::doing::{do_form, no_reply, script_module};
@@ -27,82 +29,45 @@ pub struct Counted {
 }
 
 // The module, the number of lines that it has played, and the cycle that is open.
-#[derive(Clone, Copy)]
+#[derive(Drop)]
 pub struct Loading {
     pub agent: Agent,
     pub lines: u32,
     pub cycle: Cycle,
 }
 
-// The same after a line, and the index after the line's text.
-#[derive(Clone, Copy)]
-pub struct Loaded {
-    pub loading: Loading,
-    pub next: usize,
-}
-
 // Lines past the millionth are not read.
 pub const MOST_LINES: u32 = 1000000;
 
-// Before the first line.
-pub fn start() -> Loading
-    ensures { result ≡ start }
-{
-    let agent = script_module();
-    let cycle = Cycle {
-        first: 0,
-        bytes: 0,
-        tcyc: 0,
-    };
-    Loading {
-        agent,
-        lines: 0,
-        cycle,
-    }
-}
-
-#[tactic(auto, using(crate::proofs::Readings::no_sync))]
 fn is_sync(f: Frame) -> bool
     ensures { result ≡ is_sync f }
 {
-    match f {
-        Frame::Sync { .. } => true,
-        _ => false,
-    }
+    matches!(f, Frame::Sync { .. })
 }
 
-#[tactic(auto, using(crate::proofs::Readings::no_frame))]
-fn is_sync_read(reading: Reading) -> bool
-    ensures { result ≡ is_sync_read reading }
+// Whether a body is read as a sync.
+fn body_is_sync(body: &[u8]) -> bool
+    ensures { result ≡ is_sync_read (read_frame body.now) }
 {
-    match reading {
-        Reading::Valid(_, f) => is_sync(f),
-        _ => false,
+    let mut bytes = [0; 272];
+    match read_frame(body, &mut bytes) {
+        Ok(received) => is_sync(received.frame),
+        Err(_) => false,
     }
-}
-
-// Whether a body of `n` bytes is read as a sync.
-fn body_is_sync(bytes: &[u8], n: usize) -> bool
-    ensures { result ≡ is_sync_read (read_frame (take n bytes.now)).reading }
-{
-    let end = least(bytes.len(), n);
-    let received = read_frame(&bytes[..end]);
-    let reading = received.reading;
-    is_sync_read(reading)
 }
 
 // Whether a line is an accepted sync.
-#[tactic(auto, using(crate::proofs::Readings::no_opening))]
-fn is_opening(form: Form, bytes: &[u8], answer: u8) -> bool
-    ensures { result ≡ is_opening (step_in form bytes.now) answer }
+#[tactic(auto, using(std::proofs::lemmas::List::take_min, agent_state::proofs::RefusalLaws::not_accepted))]
+fn is_opening(form: Option<Form>, bytes: &[u8], done: Result<&[u8], Refusal>) -> bool
+    ensures { result ≡ is_opening (step_in form bytes.now) (answer_of done.entry) }
 {
-    let Form::Frame(_, n) = form else {
-        return false;
-    };
-    if answer != ACCEPTED {
-        return false;
+    match form {
+        Some(Form::Frame(_, n)) => {
+            let end = n.min(bytes.len());
+            done.is_ok() && body_is_sync(&bytes[..end])
+        }
+        _ => false,
     }
-    body_is_sync(bytes, n)
 }
 
 // The cycle that is open after a line: a new one, or the same with what the line sent.
@@ -113,67 +78,84 @@ fn cycle_after(line: Counted, cycle: Cycle) -> Cycle
     if line.opens {
         return Cycle {
             first: line.number,
-            bytes: line.sent as u32,
+            bytes: u32::from(line.sent),
             tcyc: line.tcyc,
         };
     }
     Cycle {
         first: cycle.first,
-        bytes: std::num::wrapping_add_u32(cycle.bytes, line.sent as u32),
+        bytes: cycle.bytes.wrapping_add(u32::from(line.sent)),
         tcyc: cycle.tcyc,
     }
 }
 
-// Puts the cycle that a line ends at index `at` of the output; returns the next index.
-#[tactic(auto, using(crate::proofs::CyclesLaws::ended_none, crate::proofs::CyclesLaws::ended_one))]
-fn put_ended(out: &mut [u8], at: usize, opens: bool, cycle: Cycle) -> usize
-    ensures { (length (ended_text opens cycle) ≤ 64) × (result ≡ place_after (length out.old) at (ended_text opens cycle)) × (out.new ≡ put_at out.old at (ended_text opens cycle)) }
+// Puts the line of a cycle; nothing if there is no cycle.
+pub fn put_open(page: &mut Page, cycle: Cycle)
+    requires { HasRoom page.old }
+    ensures { page.new ≡ page.old ++ open_text cycle }
 {
-    if !opens {
-        return at;
-    }
-    put_cycle(out, at, cycle)
+    put_cycle(page, cycle);
 }
 
-// Plays what a line asks for, with the bytes of the line; past the millionth line nothing is played.
-#[tactic(auto, using(text::proofs::PuttingLaws::none_put, text::proofs::PuttingLaws::same_put, crate::proofs::CyclesLaws::past_after, crate::proofs::CyclesLaws::past_shown, crate::proofs::CyclesLaws::line_after, crate::proofs::CyclesLaws::line_shown, crate::proofs::CyclesLaws::few_shown))]
-fn load_form(p: Loading, form: Form, bytes: &[u8; 600], out: &mut [u8], at: usize) -> Loaded
-    ensures { (length (shown p (step_in form bytes.now)) ≤ 64) × (result.loading ≡ after p (step_in form bytes.now)) × (result.next ≡ place_after (length out.old) at (shown p (step_in form bytes.now))) × (out.new ≡ put_at out.old at (shown p (step_in form bytes.now))) }
+// Puts the cycle that a line ends, if it opens another.
+fn put_ended(page: &mut Page, opens: bool, cycle: Cycle)
+    requires { HasRoom page.old }
+    ensures { page.new ≡ page.old ++ ended_text opens cycle }
 {
-    if MOST_LINES <= p.lines {
-        return Loaded {
-            loading: p,
-            next: at,
+    if opens {
+        put_open(page, cycle);
+    }
+}
+
+impl Loading {
+    // Before the first line.
+    pub fn new() -> Self
+        ensures { result ≡ start }
+    {
+        Loading {
+            agent: script_module(),
+            lines: 0,
+            cycle: Cycle {
+                first: 0,
+                bytes: 0,
+                tcyc: 0,
+            },
+        }
+    }
+
+    // Plays what a line asks for, with the bytes of the line; past the millionth line nothing is played.
+    #[tactic(auto, using(crate::proofs::CyclesLaws::past_after, crate::proofs::CyclesLaws::past_shown))]
+    fn load_form(&mut self, form: Option<Form>, bytes: &[u8; 600], page: &mut Page)
+        requires { HasRoom page.old }
+        ensures after { self.new ≡ after self.old (step_in form bytes.now) }
+        ensures text { page.new ≡ page.old ++ shown self.old (step_in form bytes.now) }
+    {
+        if MOST_LINES <= self.lines {
+            return;
+        }
+        let tcyc = self.agent.regs[TCYC];
+        let mut reply = no_reply();
+        let done = do_form(&mut self.agent, form, bytes, &mut reply);
+        let opens = is_opening(form, bytes, done);
+        put_ended(page, opens, self.cycle);
+        self.lines += 1;
+        let line = Counted {
+            number: self.lines,
+            opens,
+            tcyc,
+            sent: done.unwrap_or(&[]).len() as u16,
         };
+        self.cycle = cycle_after(line, self.cycle);
     }
-    let agent = p.agent;
-    let mut reply = no_reply();
-    let h = do_form(agent, form, bytes, &mut reply);
-    let opens = is_opening(form, bytes, h.answer);
-    let open = p.cycle;
-    let next = put_ended(out, at, opens, open);
-    let number = p.lines + 1;
-    let line = Counted {
-        number,
-        opens,
-        tcyc: agent.regs[TCYC],
-        sent: h.sent,
-    };
-    let cycle = cycle_after(line, open);
-    let left = h.agent;
-    let loading = Loading {
-        agent: left,
-        lines: number,
-        cycle,
-    };
-    Loaded { loading, next }
-}
 
-// Plays a line of `len` characters, of which the buffer keeps the first; its text goes to index `at` of the output.
-pub fn load_line(p: Loading, line: &[u8], len: usize, out: &mut [u8], at: usize) -> Loaded
-    ensures { (length (shown p (line_in line.now len)) ≤ 64) × (result.loading ≡ after p (line_in line.now len)) × (result.next ≡ place_after (length out.old) at (shown p (line_in line.now len))) × (out.new ≡ put_at out.old at (shown p (line_in line.now len))) }
-{
-    let mut bytes = no_bytes();
-    let form = read_line(line, len, &mut bytes);
-    load_form(p, form, &bytes, out, at)
+    // Plays a line.
+    pub fn load_line(&mut self, line: &[u8], page: &mut Page)
+        requires { HasRoom page.old }
+        ensures after { self.new ≡ after self.old (line_of line.now) }
+        ensures text { page.new ≡ page.old ++ shown self.old (line_of line.now) }
+    {
+        let mut bytes = no_bytes();
+        let form = read_line(line, &mut bytes);
+        self.load_form(form, &bytes, page);
+    }
 }

@@ -1,15 +1,15 @@
 // What is printed for a cycle: the number of its first line, and its share of the line as a quotient and a remainder.
 #![tactic(auto)]
 
-ghost use Rattle.std.specs.Prelude.{◌≡◌, ◌≤◌, ◌<◌, length, replicate};
-ghost use Rattle.text.specs.Putting.{put_at, place_after, Wrote};
+ghost use Rattle.std.specs.Prelude.{◌≡◌, ◌+◌, ◌≤◌, ◌<◌, ◌++◌, length};
+ghost use Rattle.text.specs.Texts.{with_piece};
 ghost use Rattle.load_text.specs.Shares.{dividend, divisor, quotient, remainder};
 ghost use Rattle.load_text.specs.Printing.{front_text, cycle_text, open_text};
 
-use text::decimal::put_decimal;
-use text::putting::put_text;
+use text::texts::Text;
 
-// A cycle: the number of its first line, the wire bytes sent in it, and TCYC at the sync that opened it. TCYC 0 stands for no cycle.
+// A cycle: the number of its first line, the wire bytes sent in it, and TCYC at the sync that opened it. TCYC 0 stands for no cycle:
+// no module has it, and its line would divide by it, so an Option would still need the test for 0.
 #[derive(Clone, Copy)]
 pub struct Cycle {
     pub first: u32,
@@ -25,14 +25,14 @@ const LINE_RATE: u64 = 12000;
 fn dividend(bytes: u32) -> u64
     ensures { result ≡ dividend bytes }
 {
-    bytes as u64 * WIRE_BYTE * 1000
+    u64::from(bytes) * WIRE_BYTE * 1000
 }
 
 // TCYC times 12,000 bits.
 fn divisor(tcyc: u8) -> u64
     ensures { result ≡ divisor tcyc }
 {
-    tcyc as u64 * LINE_RATE
+    u64::from(tcyc) * LINE_RATE
 }
 
 #[tactic(auto, unfolding(crate::specs::Shares::quotient))]
@@ -51,44 +51,39 @@ fn remainder(bytes: u32, tcyc: u8) -> u64
     dividend(bytes) % divisor(tcyc)
 }
 
-// Room for the longest line.
-fn no_text() -> [u8; 64]
-    ensures { result ≡ replicate 64 0 }
-{
-    [0; 64]
-}
-
 // The first line and the quotient, each with its space.
-#[tactic(auto, using(crate::proofs::PrintingLaws::front_wrote))]
-fn put_front(buf: &mut [u8], c: Cycle) -> usize
-    requires { (0 < c.tcyc) × (64 ≤ length buf.old) }
-    ensures { Wrote buf.old 0 (front_text c) result buf.new }
+#[tactic(auto, using(text::proofs::DecimalLaws::decimal_length), unfolding(crate::specs::Printing::front_text))]
+fn put_front<const ROOM: usize>(text: &mut Text<ROOM>, c: Cycle)
+    requires { (0 < c.tcyc) × (length text.old + 64 ≤ ROOM) }
+    ensures text { text.new ≡ text.old ++ front_text c }
+    ensures len { length text.new ≤ length text.old + 42 }
 {
-    let a = put_decimal(buf, 0, c.first as u64);
-    let b = put_text(buf, a, b" ");
-    let d = put_decimal(buf, b, quotient(c.bytes, c.tcyc));
-    put_text(buf, d, b" ")
+    text.put_decimal(c.first.into());
+    text.put(b" ");
+    text.put_decimal(quotient(c.bytes, c.tcyc));
+    text.put(b" ");
 }
 
-// The line of a cycle, at the buffer's start; returns its length.
-#[tactic(auto, using(crate::proofs::PrintingLaws::cycle_wrote))]
-fn put_line(buf: &mut [u8], c: Cycle) -> usize
-    requires { (0 < c.tcyc) × (64 ≤ length buf.old) }
-    ensures { Wrote buf.old 0 (cycle_text c) result buf.new }
+// The line of a cycle.
+#[tactic(auto, unfolding(crate::specs::Printing::cycle_text))]
+fn put_line<const ROOM: usize>(text: &mut Text<ROOM>, c: Cycle)
+    requires { (0 < c.tcyc) × (length text.old + 64 ≤ ROOM) }
+    ensures { text.new ≡ text.old ++ cycle_text c }
 {
-    let a = put_front(buf, c);
-    let b = put_decimal(buf, a, remainder(c.bytes, c.tcyc));
-    put_text(buf, b, b"\n")
+    put_front(text, c);
+    text.put_decimal(remainder(c.bytes, c.tcyc));
+    text.put(b"\n");
 }
 
-// Puts the line of a cycle at index `at` of the output, whole or not at all; nothing if there is no cycle. Returns the next index.
-pub fn put_cycle(out: &mut [u8], at: usize, c: Cycle) -> usize
-    ensures { (length (open_text c) ≤ 64) × (result ≡ place_after (length out.old) at (open_text c)) × (out.new ≡ put_at out.old at (open_text c)) }
+// Puts the line of a cycle, whole or not at all; nothing if there is no cycle.
+pub fn put_cycle<const ROOM: usize>(text: &mut Text<ROOM>, c: Cycle)
+    ensures { (length (open_text c) ≤ 64) × (text.new ≡ with_piece ROOM text.old (open_text c)) }
 {
     if c.tcyc == 0 {
-        return at;
+        return;
     }
-    let mut text = no_text();
-    let n = put_line(&mut text, c);
-    put_text(out, at, &text[..n])
+    // room for the longest line
+    let mut line = Text::<64>::new();
+    put_line(&mut line, c);
+    text.add(line.as_slice());
 }

@@ -1,6 +1,6 @@
 -- A frame that one flipped bit may have made is a write of at least 118 bytes or none that is served; and no span has more than 64
 -- registers. Assumes nothing.
-use mathlib.Core.Path.{◌≡◌, sym, ap, ◌∙◌, subst}
+use mathlib.Core.Path.{◌≡◌, sym, ◌∙◌, subst}
 use mathlib.Core.Bool.{Bool, true, ◌&&◌, ◌||◌}
 use mathlib.Core.List.{List}
 use Prim.Native.Nat.{ℕ, ◌+◌, ◌≤◌}
@@ -10,28 +10,24 @@ use lib.Dec.{eqb, ltb}
 use lib.ListN.{length}
 use Rattle.base.specs.Bytes.{Bytes}
 use Rattle.base.proofs.Choosing.{never, by_test, and_left, and_right}
+use Rattle.std.specs.Prelude.{Ok}
 use Rattle.wire.specs.Body.{read_body}
-use Rattle.wire.specs.declared.Verdict.TheVariants as verdict
 use Rattle.wire.proofs.ReadBytes.{data_bytes}
 use Rattle.frame_kinds.specs.Kinds.{data_len, data_in}
 use Rattle.frame_kinds.specs.declared.kinds.Frame.{Frame}
-use Rattle.frame_forms.specs.declared.Read.TheVariants.{Valid}
 use Rattle.frame_reading.specs.Reading.{read_app, read_frame}
-use Rattle.frame_reading.specs.declared.Reading.TheVariants as reading
-use Rattle.frame_reading.specs.declared.Received.{Received}
-use Rattle.frame_reading.proofs.Receiving.{app_in, read_holds}
+use Rattle.frame_reading.proofs.Receiving.{read_holds}
 use Rattle.frame_writing.specs.Writing.{fits, fields_fit}
 use Rattle.frame_writing.proofs.BothWays.{read_then_written}
 use Rattle.rules.specs.Answers.{accepted}
 use Rattle.rules.specs.Calls.{least_room, frame_call, frame, act}
 use Rattle.rules.specs.FrameCall.{on_frame}
-use Rattle.rules.specs.Replies.{Outcome}
+use Rattle.rules.specs.Replies.{Deed, Outcome}
 use Rattle.rules.specs.Sound.{sound}
 use Rattle.rules.specs.Refusals.{row_of, read_of, is_sync, reads_sync, skips_by, skips_read}
 use Rattle.rules.specs.State.{running}
 use Rattle.rules.specs.Writes.{span_end, span_of, allowed}
 use Rattle.rules.specs.declared.Agent.{Agent}
-use Rattle.rules.specs.declared.Deed.{Deed}
 use Rattle.rules.specs.declared.Span.{Span}
 use Rattle.rules.specs.declared.Span.TheVariants as span
 use Rattle.rules.proofs.Cases.{Accepts, heard, read, wrote, renamed, first, again, later, KindCase, refuses, fell, missed, outside, accepts, FrameCase, unread, read_as, frame_case}
@@ -79,27 +75,22 @@ module _ (a : Agent) where
   not_accepted p n (outside h) e = omega arith
   not_accepted p n (accepts h) e = not_served p n h
 
-  module _ (got : List ℕ) (h : Bytes got) (p : (addr : ℕ) (g : Frame) → (read_frame got).reading ≡ reading.Valid addr g → CanPass g) where
-    abbrev addr : ℕ
-    addr = (read_body got).addr
-
-    abbrev app : List ℕ
-    app = app_in (read_body got)
-
-    passes : (g : Frame) → (read_body got).verdict ≡ verdict.Valid → read_app addr app ≡ Valid g → CanPass g
+  module _ (got : List ℕ) (h : Bytes got) (p : (addr : ℕ) (g : Frame) (app : List ℕ) → read_frame got ≡ Ok (addr, g, app) → CanPass g) where
+    passes : (addr : ℕ) (g : Frame) (app : List ℕ) → read_body got ≡ Ok (addr, app) → read_app addr app ≡ Ok g → CanPass g
     unfolding read_frame
-    passes g v r = p addr g (ap (λ (x : Received). x.reading) (read_holds (read_body got) g v r))
+    passes addr g app v r = p addr g app (read_holds (read_body got) addr g app v r)
 
-    data_length : (g : Frame) → read_app addr app ≡ Valid g → length (data_in g app) ≡ data_len g
+    data_length : (addr : ℕ) (g : Frame) (app : List ℕ) → Bytes app → read_app addr app ≡ Ok g → length (data_in g app) ≡ data_len g
     unfolding fits
-    data_length g r =
+    data_length addr g app b r =
         eqb-true (length (data_in g app)) (data_len g)
-        (and_right (fields_fit addr g) (eqb (length (data_in g app)) (data_len g)) (read_then_written addr app g (data_bytes got h) r).1)
+        (and_right (fields_fit addr g) (eqb (length (data_in g app)) (data_len g)) (read_then_written addr app g b r).1)
 
     not_acted_on : {d : Deed} → FrameCase a got d → d.answer ≡ accepted → ⊥
     not_acted_on (unread n m) e = no_mark (reads_sync (read_of got) && running a) (skips_read a (read_of got)) n m e
-    not_acted_on (read_as g v r c) e =
-        let s : read_app addr app ≡ Valid g = reads_frame addr app g r in not_accepted (passes g v s) (data_length g s) c e
+    not_acted_on (read_as {addr = addr} {s = app} g v r c) e =
+        let s : read_app addr app ≡ Ok g = reads_frame addr app g r in
+        not_accepted (passes addr g app v s) (data_length addr g app (data_bytes got addr app h v) s) c e
 
     -- nor by a call, whatever its port and its reply buffer
     no_call : (port room : ℕ) → (act a (frame port got room)).answer ≡ accepted → ⊥
@@ -112,5 +103,5 @@ module _ (a : Agent) where
         (λ s e. omega arith)
 
 pub one_flip : OneFlip
-one_flip a port room b f was got hs hg l d e =
-    refused a (frame port got room) (no_call a got hg (λ c g r. (other_frame b c f g was got hs hg l (omega arith) e r).1) port room)
+one_flip a port room b f app was got hs hg l d e =
+    refused a (frame port got room) (no_call a got hg (λ c g ys r. (other_frame b c f g app ys was got hs hg l (omega arith) e r).1) port room)

@@ -1,9 +1,8 @@
 -- One flipped bit on the wire and a module: it acts on no other frame. Assumes nothing.
-use Rattle.std.specs.Prelude.{◌≡◌, List, ℕ, length}
+use Rattle.std.specs.Prelude.{◌≡◌, List, ℕ, length, Ok}
 use Rattle.base.specs.Bytes.{Bytes}
 use Rattle.frame_kinds.specs.declared.kinds.Frame.{Frame}
 use Rattle.frame_reading.specs.Reading.{read_frame}
-use Rattle.frame_reading.specs.declared.Reading.TheVariants.{Valid}
 use Rattle.burst.specs.Damage.{flips}
 use Rattle.rules.specs.Calls.{frame, act}
 use Rattle.rules.specs.Refusals.{Refused}
@@ -14,5 +13,5 @@ use Rattle.rules.specs.declared.Agent.{Agent}
 -- bodies, and of the second nothing is said here (`flag_cuts` in distance)
 abbrev pub OneFlip : Type 0
 OneFlip =
-    (a : Agent) (port room addr : ℕ) (f : Frame) (sent got : List ℕ) → Bytes sent → Bytes got → length sent ≡ length got → flips sent got ≡ 1
-    → (read_frame sent).reading ≡ Valid addr f → Refused a (frame port got room) (act a (frame port got room))
+    (a : Agent) (port room addr : ℕ) (f : Frame) (app sent got : List ℕ) → Bytes sent → Bytes got → length sent ≡ length got → flips sent got ≡ 1
+    → read_frame sent ≡ Ok (addr, f, app) → Refused a (frame port got room) (act a (frame port got room))

@@ -9,15 +9,15 @@ use native.Mathlib.Omega.{arith}
 use borrow.Author.Tests.{ltb-true, ltb-false}
 use lib.Dec.{ltb}
 use lib.ListN.{length, take, drop, length-append}
+use Rattle.std.specs.Prelude.{Option, Some, None, Ok, Err}
 use lib.Seq.{split_at, length-take-le}
 use Rattle.base.proofs.Choosing.{never, by_test, and_left, and_right, and_true, or_cases, or_left_false, or_right_false}
 use Rattle.console.specs.Lines.{lines_of}
 use Rattle.rules.specs.State.{running}
 use Rattle.script_lines.specs.Doing.{script_module}
 use Rattle.script_lines.specs.Forms.{line_of}
-use Rattle.removals.specs.Removals.{after_lines, ends_in_fallback, is_frame, line_at, without, matters, smallest, which_line, most_lines, most_bytes, is_long, which_of}
-use Rattle.removals.specs.declared.searching.Which.{Which}
-use Rattle.removals.specs.declared.searching.Which.TheVariants.{Long, Fallback, Line, None}
+use Rattle.removals.specs.Removals.{after_lines, ends_in_fallback, is_frame, line_at, without, matters, smallest, Which, which_line, most_lines, most_bytes, is_long, which_of}
+use Rattle.removals.specs.declared.searching.NoSearch.TheVariants.{Long, Fallback}
 use Rattle.removals.proofs.Whole.{line_here, others_here}
 
 -- ---- the words
@@ -37,20 +37,20 @@ pub record Matters (ls : List (List ℕ)) (n : ℕ) : Type 0 where
 
 -- what each answer says of lines that are not too many
 abbrev pub Means : List (List ℕ) → Which → Type 0
-Means ls Long = ⊥
-Means ls Fallback = runs ls ≡ false
-Means ls (Line n) = (runs ls ≡ true) × Matters ls n × ((m : ℕ) → m < n → Matters ls m → ⊥)
-Means ls None = (runs ls ≡ true) × ((m : ℕ) → Matters ls m → ⊥)
+Means ls (Err Long) = ⊥
+Means ls (Err Fallback) = runs ls ≡ false
+Means ls (Ok (Some n)) = (runs ls ≡ true) × Matters ls n × ((m : ℕ) → m < n → Matters ls m → ⊥)
+Means ls (Ok None) = (runs ls ≡ true) × ((m : ℕ) → Matters ls m → ⊥)
 
 -- and of the bytes of a script
 abbrev pub Fits : List ℕ → Type 0
 Fits input = (length input ≤ most_bytes) × (length (lines_of input) ≤ most_lines)
 
 abbrev pub Says : List ℕ → Which → Type 0
-Says input Long = (most_bytes < length input) ⊎ (most_lines < length (lines_of input))
-Says input Fallback = Fits input × Means (lines_of input) Fallback
-Says input (Line n) = Fits input × Means (lines_of input) (Line n)
-Says input None = Fits input × Means (lines_of input) None
+Says input (Err Long) = (most_bytes < length input) ⊎ (most_lines < length (lines_of input))
+Says input (Err Fallback) = Fits input × Means (lines_of input) (Err Fallback)
+Says input (Ok (Some n)) = Fits input × Means (lines_of input) (Ok (Some n))
+Says input (Ok None) = Fits input × Means (lines_of input) (Ok None)
 
 -- ---- the test of a line says that it matters
 tested : (ls : List (List ℕ)) (n : ℕ) → Matters ls n → matters ls n ≡ true
@@ -84,17 +84,13 @@ untested : (ls : List (List ℕ)) (n : ℕ) → matters ls n ≡ false → Matte
 untested ls n e x = never (sym e ∙ tested ls n x)
 
 -- ---- the smallest number that passes a test
-abbrev Least : (ℕ → Bool) → ℕ → ℕ → Which → Type 0
-Least test n count Long = ⊥
-Least test n count Fallback = ⊥
-Least test n count (Line k) = (n ≤ k) × (k < n + count) × (test k ≡ true) × ((m : ℕ) → n ≤ m → m < k → test m ≡ false)
+abbrev Least : (ℕ → Bool) → ℕ → ℕ → Option ℕ → Type 0
+Least test n count (Some k) = (n ≤ k) × (k < n + count) × (test k ≡ true) × ((m : ℕ) → n ≤ m → m < k → test m ≡ false)
 Least test n count None = (m : ℕ) → n ≤ m → m < n + count → test m ≡ false
 
 -- a number in front that does not pass
-least_more : (test : ℕ → Bool) (n count : ℕ) (w : Which) → test n ≡ false → Least test (n + 1) count w → Least test n (suc count) w
-least_more test n count Long e x = x
-least_more test n count Fallback e x = x
-least_more test n count (Line k) e x = (omega (arith, x.0), omega (arith, x.1), x.2, λ m p q. by m p q (ltb n m) refl)
+least_more : (test : ℕ → Bool) (n count : ℕ) (w : Option ℕ) → test n ≡ false → Least test (n + 1) count w → Least test n (suc count) w
+least_more test n count (Some k) e x = (omega (arith, x.0), omega (arith, x.1), x.2, λ m p q. by m p q (ltb n m) refl)
   where
     by : (m : ℕ) → n ≤ m → m < k → (t : Bool) → ltb n m ≡ t → test m ≡ false
     by m p q true t = x.3 m (omega (arith, ltb-true n m t)) q
@@ -113,10 +109,8 @@ least test n (suc count) =
     (λ e. least_more test n count (smallest test (n + 1) count) e (least test (n + 1) count))
 
 -- ---- the answer is right
-found : (ls : List (List ℕ)) (w : Which) → runs ls ≡ true → Least (matters ls) 1 (length ls) w → Means ls w
-found ls Long r x = x
-found ls Fallback r x = absurd x
-found ls (Line n) r x =
+found : (ls : List (List ℕ)) (w : Option ℕ) → runs ls ≡ true → Least (matters ls) 1 (length ls) w → Means ls (Ok w)
+found ls (Some n) r x =
     (r, from_test ls n x.0 (omega (arith, x.1)) x.2, λ m p y. untested ls m (x.3 m (within ls m y).0 p) y)
 found ls None r x = (r, λ m y. untested ls m (x m (within ls m y).0 (within ls m y).1) y)
 
@@ -133,7 +127,7 @@ which_means ls =
 no_both : {P : Type 0} (b : Bool) → b ≡ true → b ≡ false → P
 no_both b e f = never (sym f ∙ e)
 
-same_number : (ls : List (List ℕ)) (n k : ℕ) → Means ls (Line n) → Means ls (Line k) → n ≡ k
+same_number : (ls : List (List ℕ)) (n k : ℕ) → Means ls (Ok (Some n)) → Means ls (Ok (Some k)) → n ≡ k
 same_number ls n k x y = by (ltb n k) refl (ltb k n) refl
   where
     by : (t : Bool) → ltb n k ≡ t → (u : Bool) → ltb k n ≡ u → n ≡ k
@@ -142,27 +136,27 @@ same_number ls n k x y = by (ltb n k) refl (ltb k n) refl
     by false t false v = omega (arith, ltb-false n k t, ltb-false k n v)
 
 pub one_means : (ls : List (List ℕ)) (v w : Which) → Means ls v → Means ls w → v ≡ w
-one_means ls Long w x y = absurd x
-one_means ls Fallback Long x y = absurd y
-one_means ls Fallback Fallback x y = refl
-one_means ls Fallback (Line k) x y = no_both _ y.0 x
-one_means ls Fallback None x y = no_both _ y.0 x
-one_means ls (Line n) Long x y = absurd y
-one_means ls (Line n) Fallback x y = no_both _ x.0 y
-one_means ls (Line n) (Line k) x y = ap Line (same_number ls n k x y)
-one_means ls (Line n) None x y = absurd (y.1 n x.1)
-one_means ls None Long x y = absurd y
-one_means ls None Fallback x y = no_both _ x.0 y
-one_means ls None (Line k) x y = absurd (x.1 k y.1)
-one_means ls None None x y = refl
+one_means ls (Err Long) w x y = absurd x
+one_means ls (Err Fallback) (Err Long) x y = absurd y
+one_means ls (Err Fallback) (Err Fallback) x y = refl
+one_means ls (Err Fallback) (Ok (Some k)) x y = no_both _ y.0 x
+one_means ls (Err Fallback) (Ok None) x y = no_both _ y.0 x
+one_means ls (Ok (Some n)) (Err Long) x y = absurd y
+one_means ls (Ok (Some n)) (Err Fallback) x y = no_both _ x.0 y
+one_means ls (Ok (Some n)) (Ok (Some k)) x y = ap (λ (m : ℕ). Ok (Some m)) (same_number ls n k x y)
+one_means ls (Ok (Some n)) (Ok None) x y = absurd (y.1 n x.1)
+one_means ls (Ok None) (Err Long) x y = absurd y
+one_means ls (Ok None) (Err Fallback) x y = no_both _ x.0 y
+one_means ls (Ok None) (Ok (Some k)) x y = absurd (x.1 k y.1)
+one_means ls (Ok None) (Ok None) x y = refl
 
 -- ---- with the limits
 -- THE MEANING: the answer to the bytes of a script is right, and it is the only one
 fit_says : (input : List ℕ) (w : Which) → Fits input → Means (lines_of input) w → Says input w
-fit_says input Long f x = absurd x
-fit_says input Fallback f x = (f, x)
-fit_says input (Line n) f x = (f, x)
-fit_says input None f x = (f, x)
+fit_says input (Err Long) f x = absurd x
+fit_says input (Err Fallback) f x = (f, x)
+fit_says input (Ok (Some n)) f x = (f, x)
+fit_says input (Ok None) f x = (f, x)
 
 pub which_says : (input : List ℕ) → Says input (which_of input)
 unfolding which_of
@@ -173,24 +167,24 @@ which_says input =
     let l : ltb most_lines (length (lines_of input)) ≡ false = or_right_false (ltb most_bytes (length input)) _ e in
     fit_says input (which_line (lines_of input)) (ltb-false _ _ b, ltb-false _ _ l) (which_means (lines_of input)))
 
-long_unfit : {P : Type 0} (input : List ℕ) → Says input Long → Fits input → P
+long_unfit : {P : Type 0} (input : List ℕ) → Says input (Err Long) → Fits input → P
 long_unfit input (inl x) f = absurd (omega (arith, f.0))
 long_unfit input (inr x) f = absurd (omega (arith, f.1))
 
 pub one_says : (input : List ℕ) (v w : Which) → Says input v → Says input w → v ≡ w
-one_says input Long Long x y = refl
-one_says input Long Fallback x y = long_unfit input x y.0
-one_says input Long (Line k) x y = long_unfit input x y.0
-one_says input Long None x y = long_unfit input x y.0
-one_says input Fallback Long x y = long_unfit input y x.0
-one_says input Fallback Fallback x y = refl
-one_says input Fallback (Line k) x y = one_means (lines_of input) Fallback (Line k) x.1 y.1
-one_says input Fallback None x y = one_means (lines_of input) Fallback None x.1 y.1
-one_says input (Line n) Long x y = long_unfit input y x.0
-one_says input (Line n) Fallback x y = one_means (lines_of input) (Line n) Fallback x.1 y.1
-one_says input (Line n) (Line k) x y = one_means (lines_of input) (Line n) (Line k) x.1 y.1
-one_says input (Line n) None x y = one_means (lines_of input) (Line n) None x.1 y.1
-one_says input None Long x y = long_unfit input y x.0
-one_says input None Fallback x y = one_means (lines_of input) None Fallback x.1 y.1
-one_says input None (Line k) x y = one_means (lines_of input) None (Line k) x.1 y.1
-one_says input None None x y = refl
+one_says input (Err Long) (Err Long) x y = refl
+one_says input (Err Long) (Err Fallback) x y = long_unfit input x y.0
+one_says input (Err Long) (Ok (Some k)) x y = long_unfit input x y.0
+one_says input (Err Long) (Ok None) x y = long_unfit input x y.0
+one_says input (Err Fallback) (Err Long) x y = long_unfit input y x.0
+one_says input (Err Fallback) (Err Fallback) x y = refl
+one_says input (Err Fallback) (Ok (Some k)) x y = one_means (lines_of input) (Err Fallback) (Ok (Some k)) x.1 y.1
+one_says input (Err Fallback) (Ok None) x y = one_means (lines_of input) (Err Fallback) (Ok None) x.1 y.1
+one_says input (Ok (Some n)) (Err Long) x y = long_unfit input y x.0
+one_says input (Ok (Some n)) (Err Fallback) x y = one_means (lines_of input) (Ok (Some n)) (Err Fallback) x.1 y.1
+one_says input (Ok (Some n)) (Ok (Some k)) x y = one_means (lines_of input) (Ok (Some n)) (Ok (Some k)) x.1 y.1
+one_says input (Ok (Some n)) (Ok None) x y = one_means (lines_of input) (Ok (Some n)) (Ok None) x.1 y.1
+one_says input (Ok None) (Err Long) x y = long_unfit input y x.0
+one_says input (Ok None) (Err Fallback) x y = one_means (lines_of input) (Ok None) (Err Fallback) x.1 y.1
+one_says input (Ok None) (Ok (Some k)) x y = one_means (lines_of input) (Ok None) (Ok (Some k)) x.1 y.1
+one_says input (Ok None) (Ok None) x y = refl

@@ -6,6 +6,7 @@ use mathlib.Core.Path.{◌≡◌, refl, sym, ap, ap₂, ◌∙◌}
 use Prim.Native.Nat.{ℕ, zero, suc, ◌+◌, ◌-◌}
 use native.Mathlib.Omega.{arith}
 use lib.ListN.{length, take, get_or, length-append}
+use Rattle.std.specs.Prelude.{Option, Some, None, Ok, Err}
 use lib.Seq.{take-append_seam, drop-append-add, get_or-append_seam}
 use Rattle.base.proofs.Choosing.{choose_true, choose_false}
 use Rattle.console.specs.Lines.{lines_of}
@@ -15,8 +16,7 @@ use Rattle.script_lines.specs.Doing.{script_module, done}
 use Rattle.script_lines.specs.Forms.{line_of}
 use Rattle.removals.specs.Removals.{after_lines, ends_in_fallback, is_frame, line_at, without, matters, smallest, which_line, is_long, which_of}
 use Rattle.removals.specs.Searching.{matters_here, first_from}
-use Rattle.removals.specs.declared.searching.Which.{Which}
-use Rattle.removals.specs.declared.searching.Which.TheVariants.{Long, Fallback, Line, None}
+use Rattle.removals.specs.declared.searching.NoSearch.TheVariants.{Long, Fallback}
 use Rattle.removals.proofs.PlayingLaws.{after_none, after_line, after_append}
 use Rattle.removals.proofs.SearchingLaws.{first_none, first_found, first_later}
 
@@ -47,7 +47,7 @@ unfolding smallest
 smallest_none test n = refl
 
 module _ (test : ℕ → Bool) (n count : ℕ) where
-  smallest_found : test n ≡ true → smallest test n (suc count) ≡ Line n
+  smallest_found : test n ≡ true → smallest test n (suc count) ≡ Some n
   unfolding smallest
   smallest_found e = choose_true _ _ e
 
@@ -92,7 +92,7 @@ lines_which ls = ap (λ (x : Agent). first_from 1 x ls) (sym (after_none script_
 
 -- ---- the answer, from the bytes of a script
 module _ (input : List ℕ) where
-  pub which_long : is_long input ≡ true → Long ≡ which_of input
+  pub which_long : is_long input ≡ true → Err Long ≡ which_of input
   unfolding which_of
   which_long e = sym (choose_true _ _ e)
 
@@ -100,10 +100,10 @@ module _ (input : List ℕ) where
   pub end_is : (m b : Agent) (r : Bool) → m ≡ script_module → b ≡ after_lines m (lines_of input) → r ≡ not (running b) → r ≡ ends_in_fallback (lines_of input)
   end_is m b r e f q = q ∙ ap (λ (x : Agent). not (running x)) (f ∙ ap (λ (x : Agent). after_lines x (lines_of input)) e)
 
-  pub which_fallback : is_long input ≡ false → ends_in_fallback (lines_of input) ≡ true → Fallback ≡ which_of input
+  pub which_fallback : is_long input ≡ false → ends_in_fallback (lines_of input) ≡ true → Err Fallback ≡ which_of input
   unfolding which_of which_line
   which_fallback e f = sym (choose_false _ _ e ∙ choose_true _ _ f)
 
-  pub which_found : is_long input ≡ false → ends_in_fallback (lines_of input) ≡ false → (w : Which) → w ≡ first_from 1 script_module (lines_of input) → w ≡ which_of input
+  pub which_found : is_long input ≡ false → ends_in_fallback (lines_of input) ≡ false → (w : Option ℕ) → w ≡ first_from 1 script_module (lines_of input) → Ok w ≡ which_of input
   unfolding which_of which_line
-  which_found e f w q = q ∙ lines_which (lines_of input) ∙ sym (choose_false _ _ e ∙ choose_false _ _ f)
+  which_found e f w q = ap Ok (q ∙ lines_which (lines_of input)) ∙ sym (choose_false _ _ e ∙ choose_false _ _ f)

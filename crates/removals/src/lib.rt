@@ -5,4 +5,4 @@ mod lines;
 mod playing;
 mod searching;
 
-pub use searching::{Which, which_frame};
+pub use searching::{NoSearch, which_frame};

@@ -10,26 +10,25 @@ use lib.Dec.{eqb, leb, ltb}
 use lib.ListN.{length}
 use Rattle.base.specs.Choice.{choose}
 use Rattle.base.proofs.Choosing.{by_test, and_left, and_right, or_left_false, or_right_false}
-use Rattle.wire.specs.Body.{read_body}
-use Rattle.wire.specs.declared.Verdict.{Verdict}
-use Rattle.wire.specs.declared.Verdict.TheVariants as verdict
+use Rattle.std.specs.Prelude.{Ok, Err, Option, Some, None}
+use Rattle.wire.specs.Body.{ReadBody, read_body}
+use Rattle.wire.specs.declared.LineFault.TheVariants as line
 use Rattle.frame_kinds.specs.Kinds.{data_in}
 use Rattle.frame_kinds.specs.declared.kinds.Frame.{Frame}
 use Rattle.frame_kinds.specs.declared.kinds.Frame.TheVariants.{Sync, SafeRead, SafeWrite, PlainRead, PlainWrite, SafeResponse, PlainSyncResponse, PlainResponse, TidAssignment, SidAssignment, SidAssignment4, Acknowledgement, Invariants}
-use Rattle.frame_forms.specs.declared.Read.{Read}
-use Rattle.frame_forms.specs.declared.Read.TheVariants.{Valid, Kind, Form, Check}
+use Rattle.frame_forms.specs.Forms.{Read}
+use Rattle.frame_forms.specs.declared.FrameFault.TheVariants.{Kind, Form, Check}
 use Rattle.frame_writing.specs.Writing.{frame_line}
-use Rattle.frame_reading.proofs.Receiving.{app_in}
 use Rattle.rules.specs.Answers.{accepted, body_length, stuffing, unstuffed_length, fcs, reserved, elsewhere, typ, form, crc, source, addressee, cycle, repeat, out_of_order, too_many, outside_rules, not_allowed, eight_others, unsound, reply_room, host_input, outside_window}
 use Rattle.rules.specs.Assignments.{assignable, on_tid, on_first_sid, on_later_sid, on_sid}
 use Rattle.rules.specs.Calls.{least_room, tick_call, frame_call, Call, tick, frame, act}
 use Rattle.rules.specs.Fixed.{limit_of}
-use Rattle.rules.specs.FrameCall.{on_kind, on_read, is_own, on_app, on_verdict, on_body, on_frame}
+use Rattle.rules.specs.FrameCall.{agent_read, on_kind, on_read, is_own, on_app, on_body, on_frame}
 use Rattle.rules.specs.Inputs.{with_inputs}
 use Rattle.rules.specs.Registers.{mac_at, iid_at, tid_at, sid_at, statut, ad_ref, sz_ref, image, low_bytes, low_number}
 use Rattle.rules.specs.Marks.{sequence_marked}
-use Rattle.rules.specs.Refusals.{sequence_fall, window_mark, changed, row_of, read_of, is_sync, reads_sync, skips_by, skips_read}
-use Rattle.rules.specs.Replies.{Outcome, outcome, does, sync_reply, read_reply, acknowledges, muted, reply_data, send_reply, sent, send_frame}
+use Rattle.rules.specs.Refusals.{sequence_fall, window_mark, changed, row_of, address_of, data_of, read_of, is_sync, reads_sync, skips_by, skips_read}
+use Rattle.rules.specs.Replies.{Deed, Outcome, outcome, does, sync_reply, read_reply, acknowledges, muted, reply_data, send_reply, sent, send_frame}
 use Rattle.rules.specs.Requests.{distance, most_skipped, taken_at, Ask, reads, writes, on_ask, on_distance, on_request}
 use Rattle.rules.specs.Sound.{sound}
 use Rattle.rules.specs.Sources.{is_recorded, recorded, sid_of}
@@ -39,9 +38,6 @@ use Rattle.rules.specs.Tick.{ticked}
 use Rattle.rules.specs.Window.{in_window}
 use Rattle.rules.specs.Writes.{span_of, allowed, written, on_write}
 use Rattle.rules.specs.declared.Agent.{Agent}
-use Rattle.rules.specs.declared.Deed.{Deed}
-use Rattle.rules.specs.declared.Reply.{Reply}
-use Rattle.rules.specs.declared.Reply.TheVariants.{Silent, Says}
 use Rattle.rules.proofs.MarkSteps.{is_marking}
 
 -- the host's numbers for a call with a sound agent
@@ -98,14 +94,18 @@ pub data KindCase (a : Agent) : Frame → List ℕ → Deed → Type 0 where
   missed : {src cyc : ℕ} {xs : List ℕ} → (running a && not (in_window a cyc)) ≡ true → KindCase a (Sync src cyc) xs (does outside_window (changed window_mark a))
   outside : {dest src cyc seq datl add : ℕ} {xs : List ℕ} → Passes a dest src cyc seq
       → KindCase a (SafeWrite dest src cyc seq datl add) xs (does outside_rules (taken_by seq cyc a))
-  accepts : {f : Frame} {xs : List ℕ} {b : Agent} {r : Reply} → Accepts a f xs b → KindCase a f xs (record { answer = accepted; agent = b; reply = r })
+  accepts : {f : Frame} {xs : List ℕ} {b : Agent} {r : Option Frame} → Accepts a f xs b → KindCase a f xs (record { answer = accepted; agent = b; reply = r })
 
 -- what a body on a port does
 pub data FrameCase (a : Agent) (body : List ℕ) : Deed → Type 0 where
   unread : (n : ℕ) → is_marking (reads_sync (read_of body) && running a) (skips_read a (read_of body)) n ≡ true
       → FrameCase a body (does n (changed (row_of (reads_sync (read_of body) && running a) (skips_read a (read_of body)) n) a))
-  read_as : {d : Deed} (f : Frame) → (read_body body).verdict ≡ verdict.Valid → read_of body ≡ Valid f
-      → KindCase a f (data_in f (app_in (read_body body))) d → FrameCase a body d
+  read_as : {d : Deed} {addr : ℕ} {s : List ℕ} (f : Frame) → read_body body ≡ Ok (addr, s) → agent_read addr s ≡ Ok f
+      → KindCase a f (data_in f s) d → FrameCase a body d
+
+-- what the module reads of a body is what it reads of the body's application data
+pub read_of_body : (body : List ℕ) {addr : ℕ} {s : List ℕ} → read_body body ≡ Ok (addr, s) → read_of body ≡ agent_read addr s
+read_of_body body v = ap (λ (b : ReadBody). agent_read (address_of b) (data_of b)) v
 
 -- what a call does
 pub data CallCase (a : Agent) : Call → Outcome → Type 0 where
@@ -216,25 +216,25 @@ module _ (port : ℕ) (a : Agent) where
   kind_case (Invariants dest src cyc seq config logic) xs = refuses typ refl
 
   module _ (body : List ℕ) where
-    read_as_lem : (read_body body).verdict ≡ verdict.Valid → (r : Read) → read_of body ≡ r → FrameCase a body (on_read port a r (app_in (read_body body)))
-    read_as_lem v (Valid f) e = read_as f v e (kind_case f (data_in f (app_in (read_body body))))
-    read_as_lem v Kind e = unread typ refl
-    read_as_lem v Form e = unread form refl
-    read_as_lem v Check e = unread crc refl
+    read_as_lem : (addr : ℕ) (s : List ℕ) → read_body body ≡ Ok (addr, s) → (r : Read) → agent_read addr s ≡ r → FrameCase a body (on_read port a r s)
+    read_as_lem addr s v (Ok f) e = read_as f v e (kind_case f (data_in f s))
+    read_as_lem addr s v (Err Kind) e = unread typ refl
+    read_as_lem addr s v (Err Form) e = unread form refl
+    read_as_lem addr s v (Err Check) e = unread crc refl
 
-    verdict_case : (v : Verdict) → (read_body body).verdict ≡ v → FrameCase a body (on_verdict port a v (read_body body))
-    unfolding on_app
-    verdict_case verdict.Valid e =
-        by_test (FrameCase a body) (is_own a (read_body body).addr) (λ own. read_as_lem e (read_of body) refl) (λ other. unread elsewhere refl)
-    verdict_case verdict.Length e = unread body_length refl
-    verdict_case verdict.Stuffing e = unread stuffing refl
-    verdict_case verdict.Size e = unread unstuffed_length refl
-    verdict_case verdict.Check e = unread fcs refl
-    verdict_case verdict.Reserved e = unread reserved refl
+    body_case : (b : ReadBody) → read_body body ≡ b → FrameCase a body (on_body port a b)
+    unfolding on_app on_body
+    body_case (Ok (addr, s)) e =
+        by_test (FrameCase a body) (is_own a addr) (λ own. read_as_lem addr s e (agent_read addr s) refl) (λ other. unread elsewhere refl)
+    body_case (Err line.Length) e = unread body_length refl
+    body_case (Err line.Stuffing) e = unread stuffing refl
+    body_case (Err line.Size) e = unread unstuffed_length refl
+    body_case (Err line.Check) e = unread fcs refl
+    body_case (Err line.Reserved) e = unread reserved refl
 
     pub frame_case : FrameCase a body (on_frame port a body)
-    unfolding on_frame on_body
-    frame_case = verdict_case (read_body body).verdict refl
+    unfolding on_frame
+    frame_case = body_case (read_body body) refl
 
 pub call_case : (a : Agent) (call : Call) → CallCase a call (act a call)
 unfolding tick_call frame_call
@@ -258,11 +258,11 @@ pub by_sent {κ} : (P : Outcome → Type κ) (d : Deed) → P (outcome d.answer 
 unfolding sent send_frame
 by_sent P d p q = go d.reply
   where
-    go : (r : Reply) → P (send_reply r d.answer d.agent)
-    go Silent = p
-    go (Says f) = by_test P (muted d.agent) (λ e. p) (λ e. q f)
+    go : (r : Option Frame) → P (send_reply r d.answer d.agent)
+    go None = p
+    go (Some f) = by_test P (muted d.agent) (λ e. p) (λ e. q f)
 
 -- with no reply, as it is
-pub sent_silent : (d : Deed) → d.reply ≡ Silent → sent d ≡ outcome d.answer d.agent
+pub sent_silent : (d : Deed) → d.reply ≡ None → sent d ≡ outcome d.answer d.agent
 unfolding sent
-sent_silent d e = ap (λ (r : Reply). send_reply r d.answer d.agent) e
+sent_silent d e = ap (λ (r : Option Frame). send_reply r d.answer d.agent) e

@@ -3,7 +3,7 @@
 use mathlib.Core.Bool.{Bool, true, false, ◌&&◌}
 use mathlib.Core.List.{List, [], ◌∷◌}
 use mathlib.Core.Logic.{◌⊎◌, inl, inr, ⊎_elim}
-use mathlib.Core.Path.{◌≡◌, refl, ap, ◌∙◌}
+use mathlib.Core.Path.{◌≡◌, refl, ap, ◌∙◌, subst}
 use Prim.Native.Nat.{ℕ, ◌+◌, ◌≤◌, ◌<◌}
 use native.Mathlib.Omega.{arith}
 use borrow.Author.Tests.{ltb-true, ltb-false}
@@ -12,6 +12,8 @@ use lib.Dec.{eqb, ltb}
 use lib.ListN.{length, get_or}
 use Rattle.base.proofs.Choosing.{by_test, never}
 use Rattle.base.proofs.Stored.{stored_before, stored_behind}
+use Rattle.wire.specs.Body.{ReadBody}
+use Rattle.frame_kinds.specs.Kinds.{data_in}
 use Rattle.frame_kinds.specs.declared.kinds.Frame.{Frame}
 use Rattle.frame_kinds.specs.declared.kinds.Frame.TheVariants.{SafeWrite}
 use Rattle.rules.specs.Answers.{cycle, outside_rules, outside_window, accepted}
@@ -21,21 +23,20 @@ use Rattle.rules.specs.Fallback.{withheld}
 use Rattle.rules.specs.Grounds.{by_order}
 use Rattle.rules.specs.Inputs.{with_inputs}
 use Rattle.rules.specs.Marks.{skip_marked}
-use Rattle.rules.specs.Refusals.{read_of, is_sync, reads_sync, skips_by, skips_read}
+use Rattle.rules.specs.Refusals.{data_of, read_of, is_sync, reads_sync, skips_by, skips_read}
 use Rattle.rules.specs.Registers.{tid_at, sid_at, statut, inputs_at, low_bytes}
-use Rattle.rules.specs.Replies.{Outcome, outcome}
+use Rattle.rules.specs.Replies.{Deed, Outcome, outcome}
 use Rattle.rules.specs.Requests.{distance}
 use Rattle.rules.specs.Sources.{recorded}
 use Rattle.rules.specs.State.{running, reg, store_all, with_taken}
 use Rattle.rules.specs.Writes as writes
 use Rattle.rules.specs.declared.Agent.{Agent}
-use Rattle.rules.specs.declared.Deed.{Deed}
 use Rattle.rules.specs.declared.Span.{Span}
 use Rattle.rules.specs.declared.Span.TheVariants as span
 use Rattle.laying.specs.Laying.{line_with}
 use Rattle.rules.proofs.ButFor.{other_stored}
 use Rattle.rules.proofs.Calm.{Calm, calm_same, calm_then, calm_before, calm_behind, calm_between, calm_fallen, quiet_sent, calm_synced, calm_ticked}
-use Rattle.rules.proofs.Cases.{taken_by, Accepts, heard, read, wrote, renamed, first, again, later, KindCase, refuses, fell, missed, outside, accepts, FrameCase, unread, read_as, CallCase, unsoundly, hosts, ticks, frames, call_case, by_sent}
+use Rattle.rules.proofs.Cases.{taken_by, Accepts, heard, read, wrote, renamed, first, again, later, KindCase, refuses, fell, missed, outside, accepts, FrameCase, unread, read_as, CallCase, read_of_body, unsoundly, hosts, ticks, frames, call_case, by_sent}
 use Rattle.rules.proofs.MarkSteps.{is_marking, apart}
 use Rattle.rules.proofs.RowKeeps.{Keeps, calmly, recounted, then_calmly, not_status, skip_keeps, row_keeps}
 use Rattle.rules.proofs.Spans.{Placed, inside, span_placed}
@@ -98,7 +99,8 @@ frame_keeps {a = a} {body = body} port room (unread n h) =
     let b : Bool = reads_sync (read_of body) && running a in
     let s : ℕ = skips_read a (read_of body) in
     row_keeps a (frame port body room) n b s (apart (is_marking b s) n outside_rules h refl)
-frame_keeps port room (read_as f v e c) = kind_keeps (brings e) c
+frame_keeps {a = a} {body = body} port room (read_as f v e c) =
+    kind_keeps (subst (λ (b : ReadBody). Brings (frame port body room) f (data_in f (data_of b))) v (brings (read_of_body body v ∙ e))) c
 
 -- ---- a call
 inputs_calm : (a : Agent) (xs : List ℕ) → Calm a.regs (with_inputs xs a).regs

@@ -18,7 +18,7 @@ use Rattle.rules.specs.Inputs.{with_inputs}
 use Rattle.rules.specs.PowerUp.{power_up}
 use Rattle.rules.specs.Registers.{out_rep}
 use Rattle.rules.specs.Refusals.{sequence_fall, window_mark, request_taken, row_of, read_of, is_sync, reads_sync, skips_by, skips_read}
-use Rattle.rules.specs.Replies.{Outcome, outcome}
+use Rattle.rules.specs.Replies.{Deed, Outcome, outcome}
 use Rattle.rules.specs.Requests.{distance}
 use Rattle.rules.specs.Sound.{sound}
 use Rattle.rules.specs.Sources.{recorded}
@@ -27,7 +27,6 @@ use Rattle.rules.specs.Sync.{heard_sync, synced}
 use Rattle.rules.specs.Tick.{sync_limit, command_limit, window_limit, counted, limited, cycle_ended, ticked}
 use Rattle.rules.specs.Writes.{span_of, written}
 use Rattle.rules.specs.declared.Agent.{Agent}
-use Rattle.rules.specs.declared.Deed.{Deed}
 use Rattle.rules.specs.declared.Fixed.{Fixed}
 use Rattle.rules.specs.declared.Span.{Span}
 use Rattle.rules.specs.declared.Span.TheVariants.{Release, CycleTime, Limits, Counters, Config, Outputs, Outside}

@@ -8,12 +8,10 @@ use borrow.Author.Tests.{eqb-true, eqb-false}
 use lib.ListN.{length, drop}
 use Rattle.base.specs.Bytes.{Bytes}
 use Rattle.base.proofs.Bytes.{bytes_take, bytes_drop}
-use Rattle.wire.specs.Body.{read_body}
 use Rattle.wire.proofs.ReadBytes.{data_bytes}
 use Rattle.frame_kinds.specs.Kinds.{data_len, data_place}
 use Rattle.frame_kinds.specs.declared.kinds.Frame.{Frame}
 use Rattle.frame_writing.proofs.Fits.{FittingFrame}
-use Rattle.frame_reading.proofs.Receiving.{app_in}
 use Rattle.rules.specs.Calls.{Call, act}
 use Rattle.rules.specs.Fixed.{limit_of}
 use Rattle.rules.specs.Good.{Good, BytesCall}
@@ -21,13 +19,12 @@ use Rattle.rules.specs.Grounds.{by_wrong_cycle}
 use Rattle.rules.specs.Inputs.{with_inputs}
 use Rattle.rules.specs.Marks.{sequence_marked, skip_marked}
 use Rattle.rules.specs.Refusals.{request_taken, read_of, is_sync, reads_sync, skips_by, skips_read}
-use Rattle.rules.specs.Replies.{Outcome}
+use Rattle.rules.specs.Replies.{Deed, Outcome}
 use Rattle.rules.specs.Requests.{distance}
 use Rattle.rules.specs.Sources.{is_recorded}
 use Rattle.rules.specs.State.{nobody, running}
 use Rattle.rules.specs.Writes.{span_of}
 use Rattle.rules.specs.declared.Agent.{Agent}
-use Rattle.rules.specs.declared.Deed.{Deed}
 use Rattle.rules.specs.declared.Fixed.{Fixed}
 use Rattle.rules.proofs.Assigning.{good_tid, good_later, good_first}
 use Rattle.rules.proofs.ButFor.{but_for}
@@ -88,10 +85,10 @@ module _ {a : Agent} (g : GoodTo 254 a) where
 
   good_frame : {body : List ℕ} {d : Deed} → Bytes body → FrameCase a body d → GoodTo 254 d.agent
   good_frame {body = body} b (unread n h) = good_marks 254 g (row_marks a (reads_sync (read_of body) && running a) (skips_read a (read_of body)) n h)
-  good_frame {body = body} b (read_as f v e c) =
-      let s : Bytes (app_in (read_body body)) = data_bytes body b in
-      good_kind (read_fitting (read_body body).addr (app_in (read_body body)) f s (reads_frame (read_body body).addr (app_in (read_body body)) f e))
-      (bytes_take (data_len f) (drop (data_place f) (app_in (read_body body))) (bytes_drop (data_place f) (app_in (read_body body)) s)) c
+  good_frame {body = body} b (read_as {addr = addr} {s = s} f v e c) =
+      let h : Bytes s = data_bytes body addr s b v in
+      good_kind (read_fitting addr s f h (reads_frame addr s f e))
+      (bytes_take (data_len f) (drop (data_place f) s) (bytes_drop (data_place f) s h)) c
 
   good_call : {call : Call} {o : Outcome} → BytesCall call → CallCase a call o → GoodTo 254 o.agent
   good_call b (unsoundly e) = g

@@ -3,27 +3,26 @@
 use mathlib.Core.Bool.{true, false, ◌||◌}
 use mathlib.Core.List.{List}
 use mathlib.Core.Path.{◌≡◌, refl, ap, ◌∙◌}
-use Prim.Native.Nat.{ℕ, ◌/◌, ◌%◌, ◌≤◌}
+use Prim.Native.Nat.{ℕ, ◌≤◌}
 use borrow.Author.Tests.{eqb-true, le-ltb}
 use lib.Dec.{eqb}
 use lib.ListN.{length}
 use Rattle.base.specs.Bytes.{number_at}
 use Rattle.base.specs.Choice.{choose}
 use Rattle.base.proofs.Choosing.{never, and_left, and_right}
-use Rattle.wire.specs.Body.{reserved_addr, fcs_of}
+use Rattle.std.specs.Prelude.{Ok}
+use Rattle.wire.specs.Body.{reserved_addr}
 use Rattle.laying.specs.Laying.{body_of}
-use Rattle.wire.proofs.StuffedRead.{held_data}
 use Rattle.laying.proofs.BodyBothWays.{laid_then_read}
 use Rattle.frame_kinds.specs.Kinds.{data_len, app_of}
 use Rattle.frame_kinds.specs.Sized.{Sized}
 use Rattle.frame_writing.specs.Writing.{fields_fit, fits}
 use Rattle.frame_kinds.specs.declared.kinds.Frame.{Frame}
 use Rattle.frame_kinds.specs.declared.kinds.Frame.TheVariants.{Sync, SafeRead, SafeWrite, PlainRead, PlainWrite, SafeResponse, PlainSyncResponse, PlainResponse, TidAssignment, SidAssignment, SidAssignment4, Acknowledgement, Invariants}
-use Rattle.frame_forms.specs.declared.Read.{Read}
-use Rattle.frame_forms.specs.declared.Read.TheVariants.{Valid}
+use Rattle.frame_forms.specs.Forms.{Read}
 use Rattle.frame_writing.proofs.BothWays.{written_then_read}
 use Rattle.frame_writing.proofs.Fits.{fitting}
-use Rattle.frame_writing.proofs.LineBothWays.{app_range}
+use Rattle.frame_writing.proofs.WritingLaws.{app_bounds}
 use Rattle.frame_writing.proofs.Standing.{Stands, written_stands}
 use Rattle.rules.specs.Answers.{elsewhere, unsound}
 use Rattle.rules.specs.Calls.{least_room, frame_call}
@@ -85,7 +84,7 @@ module _ (addr : ℕ) (f : Frame) (xs : List ℕ) (l : Layable addr f xs) where
   stands : Stands addr (app_of f xs) f
   stands = written_stands addr f xs (fitting addr f l.sized field_fit) field_fit data_fit
 
-  read_back : agent_read addr (app_of f xs) ≡ Valid f
+  read_back : agent_read addr (app_of f xs) ≡ Ok f
   unfolding agent_read
   read_back =
       rw (typ_served (app_of f xs) f stands l.is_served, not_sil4 (app_of f xs) f stands l.is_served) (written_then_read addr f xs l.sized l.fit).0
@@ -96,11 +95,8 @@ module _ (addr : ℕ) (f : Frame) (xs : List ℕ) (l : Layable addr f xs) where
     unfolding on_frame on_body on_app
     body_acts =
         let ys : List ℕ = app_of f xs in
-        let r = app_range addr f xs l.sized l.fit in
-        let h : ℕ = fcs_of addr ys / 256 in
-        let w : ℕ = fcs_of addr ys % 256 in
+        let r = app_bounds addr f xs l.sized l.fit in
         ap (on_body port a) (laid_then_read addr ys l.free r.0 r.1)
-        ∙ ap (on_app port a addr) (held_data ys h w r.1)
         ∙ ap (λ (x : Read). choose (is_own a addr) (on_read port a x ys) (does elsewhere a)) read_back
         ∙ ap (λ (d : List ℕ). choose (is_own a addr) (on_kind port a f d) (does elsewhere a)) (written_then_read addr f xs l.sized l.fit).1
 

@@ -11,11 +11,10 @@ use Rattle.rules.specs.Answers.{unsound}
 use Rattle.rules.specs.Calls.{Call, act}
 use Rattle.rules.specs.Good.{Good}
 use Rattle.rules.specs.Refusals.{read_of, is_sync, reads_sync, skips_by, skips_read}
-use Rattle.rules.specs.Replies.{Outcome}
+use Rattle.rules.specs.Replies.{Deed, Outcome}
 use Rattle.rules.specs.Sound.{sound}
 use Rattle.rules.specs.State.{running}
 use Rattle.rules.specs.declared.Agent.{Agent}
-use Rattle.rules.specs.declared.Deed.{Deed}
 use Rattle.rules.proofs.Cases.{is_hosts, KindCase, refuses, fell, missed, outside, accepts, FrameCase, unread, read_as, CallCase, unsoundly, hosts, ticks, frames, call_case, by_sent}
 use Rattle.rules.proofs.MarkSteps.{is_marking, apart}
 

@@ -7,22 +7,21 @@ use Prim.Native.Nat.{ℕ, ◌+◌, ◌-◌, ◌≤◌}
 use native.Mathlib.Omega.{arith}
 use borrow.Author.Tests.{eqb-true, leb-true, le-leb}
 use lib.Dec.{eqb, leb}
+use Rattle.std.specs.Prelude.{None}
 use Rattle.base.proofs.Choosing.{never, and_left, and_right, and_true, or_cases}
 use Rattle.frame_kinds.specs.declared.kinds.Frame.{Frame}
-use Rattle.frame_forms.specs.declared.Read.{Read}
+use Rattle.frame_forms.specs.Forms.{Read}
 use Rattle.rules.specs.Answers.{accepted, body_length, reserved, elsewhere, form, crc, source, addressee, cycle, too_many, not_allowed, eight_others, unsound, reply_room, host_input, outside_window}
 use Rattle.rules.specs.Calls.{Call, frame, act}
 use Rattle.rules.specs.Refusals.{Change, nothing, is_refusal, row_of, changed, leaves_all, leaves_too, read_of, is_sync, reads_sync, sync_in_run, skips_by, skips_read, skips, Refused}
-use Rattle.rules.specs.Replies.{Outcome, outcome, sent}
+use Rattle.rules.specs.Replies.{Deed, Outcome, outcome, sent}
 use Rattle.rules.specs.Marks.{skip_marked}
 use Rattle.rules.specs.Requests.{distance}
 use Rattle.rules.specs.State.{running, with_taken}
 use Rattle.rules.specs.Sync.{cycle_fits}
 use Rattle.rules.specs.declared.Agent.{Agent}
-use Rattle.rules.specs.declared.Deed.{Deed}
-use Rattle.rules.specs.declared.Reply.TheVariants.{Silent}
 use Rattle.rules.proofs.ButFor.{but_for}
-use Rattle.rules.proofs.Cases.{is_hosts, KindCase, refuses, fell, missed, outside, accepts, FrameCase, unread, read_as, CallCase, unsoundly, hosts, ticks, frames, call_case, by_sent, sent_silent}
+use Rattle.rules.proofs.Cases.{is_hosts, KindCase, refuses, fell, missed, outside, accepts, FrameCase, unread, read_as, CallCase, read_of_body, unsoundly, hosts, ticks, frames, call_case, by_sent, sent_silent}
 use Rattle.rules.proofs.Makes.{makes}
 use Rattle.rules.proofs.MarkSteps.{only_marks, is_frames, is_marking}
 
@@ -32,7 +31,7 @@ sent_answer d = by_sent (λ o. o.answer ≡ d.answer) d refl (λ f. refl)
 -- a deed that is refused: its number, no reply, and the agent of its row
 record RefusedDeed (a : Agent) (sync : Bool) (skips : ℕ) (d : Deed) : Type 0 where
   number : is_refusal d.answer ≡ true
-  silent : d.reply ≡ Silent
+  silent : d.reply ≡ None
   state : d.agent ≡ changed (row_of (sync && running a) skips d.answer) a
 
 marking_number : (b : Bool) (s n : ℕ) → is_marking b s n ≡ true → is_refusal n ≡ true
@@ -64,7 +63,8 @@ module _ {a : Agent} where
     silent = refl;
     state = refl;
   }
-  frame_refused (read_as {d = d} f v e c) z = subst (λ (r : Read). RefusedDeed a (reads_sync r) (skips_read a r) d) (sym e) (kind_refused c z)
+  frame_refused {body = body} (read_as {d = d} f v e c) z =
+      subst (λ (r : Read). RefusedDeed a (reads_sync r) (skips_read a r) d) (sym (read_of_body body v ∙ e)) (kind_refused c z)
 
   -- the statement, from its number, what is sent and the agent
   refusal : (call : Call) (n : ℕ) (b : Agent) → is_refusal n ≡ true → b ≡ changed (row_of (sync_in_run a call) (skips a call) n) a → Refused a call (outcome n b)

@@ -10,26 +10,24 @@ use lib.ListN.{length}
 use Rattle.base.specs.Bytes.{Bytes}
 use Rattle.base.specs.Choice.{choose}
 use Rattle.base.proofs.Choosing.{by_test, or_left_false, or_right_false}
-use Rattle.wire.specs.Body.{read_body, fcs_of}
-use Rattle.wire.specs.declared.Verdict.{Verdict}
-use Rattle.wire.specs.declared.Verdict.TheVariants as verdict
+use Rattle.std.specs.Prelude.{Ok, Err}
+use Rattle.wire.specs.Body.{ReadBody, read_body, fcs_of}
+use Rattle.wire.specs.declared.LineFault.TheVariants as line
 use Rattle.wire.proofs.ReadBytes.{data_bytes}
 use Rattle.laying.proofs.LayingLaws.{line_most}
 use Rattle.frame_kinds.specs.Kinds.{app_of}
 use Rattle.frame_kinds.specs.declared.kinds.Frame.{Frame}
 use Rattle.frame_kinds.specs.declared.kinds.Frame.TheVariants.{Sync, SafeRead, SafeWrite, PlainRead, PlainWrite, SafeResponse, PlainSyncResponse, PlainResponse, TidAssignment, SidAssignment, SidAssignment4, Acknowledgement, Invariants}
 use Rattle.frame_kinds.proofs.Parts.{app_length}
-use Rattle.frame_forms.specs.declared.Read.{Read}
-use Rattle.frame_forms.specs.declared.Read.TheVariants.{Valid, Kind, Form, Check}
-use Rattle.frame_reading.proofs.Receiving.{app_in}
+use Rattle.frame_forms.specs.Forms.{Read}
+use Rattle.frame_forms.specs.declared.FrameFault.TheVariants.{Kind, Form, Check}
 use Rattle.frame_writing.proofs.Fits.{FittingFrame}
 use Rattle.rules.specs.Assignments.{on_tid, on_first_sid, on_later_sid, on_sid}
 use Rattle.rules.specs.Calls.{least_room, tick_call, frame_call, Call, tick, frame, act}
-use Rattle.rules.specs.FrameCall.{on_kind, on_read, is_own, on_app, on_verdict, on_body, on_frame}
+use Rattle.rules.specs.FrameCall.{agent_read, on_kind, on_read, is_own, on_app, on_body, on_frame}
 use Rattle.rules.specs.Good.{Good, BytesCall}
-use Rattle.rules.specs.Refusals.{read_of}
 use Rattle.rules.specs.Registers.{mac_at, sz_ref, image, low_number}
-use Rattle.rules.specs.Replies.{Outcome, acknowledges, muted, reply_data, send_frame, sent}
+use Rattle.rules.specs.Replies.{Deed, Outcome, acknowledges, muted, reply_data, send_frame, sent}
 use Rattle.rules.specs.Requests.{on_distance, on_request}
 use Rattle.rules.specs.Sound.{sound}
 use Rattle.rules.specs.Sources.{is_recorded, sid_of}
@@ -37,7 +35,6 @@ use Rattle.rules.specs.State.{nobody}
 use Rattle.rules.specs.Sync.{synced, on_sync}
 use Rattle.rules.specs.Writes.{on_write}
 use Rattle.rules.specs.declared.Agent.{Agent}
-use Rattle.rules.specs.declared.Deed.{Deed}
 use Rattle.rules.proofs.GoodNext.{good_parts}
 use Rattle.rules.proofs.Hearing.{good_synced}
 use Rattle.rules.proofs.Kept.{GoodTo}
@@ -96,29 +93,29 @@ module _ (port : ℕ) {a : Agent} (g : GoodTo 254 a) where
   on_kind_lem (Invariants dest src cyc seq config logic) xs h = silent
 
   module _ (body : List ℕ) (b : Bytes body) where
-    on_read_lem : (r : Read) → read_of body ≡ r → Short (on_read port a r (app_in (read_body body)))
-    on_read_lem (Valid f) e = on_kind_lem f _ (read_fitting _ _ f (data_bytes body b) (reads_frame _ _ f e))
-    on_read_lem Kind e = silent
-    on_read_lem Form e = silent
-    on_read_lem Check e = silent
+    on_read_lem : (addr : ℕ) (s : List ℕ) → Bytes s → (r : Read) → agent_read addr s ≡ r → Short (on_read port a r s)
+    on_read_lem addr s h (Ok f) e = on_kind_lem f _ (read_fitting addr s f h (reads_frame addr s f e))
+    on_read_lem addr s h (Err Kind) e = silent
+    on_read_lem addr s h (Err Form) e = silent
+    on_read_lem addr s h (Err Check) e = silent
 
-    on_verdict_lem : (v : Verdict) → Short (on_verdict port a v (read_body body))
-    unfolding on_app
-    on_verdict_lem verdict.Valid = either (is_own a (read_body body).addr) (on_read_lem (read_of body) refl) silent
-    on_verdict_lem verdict.Length = silent
-    on_verdict_lem verdict.Stuffing = silent
-    on_verdict_lem verdict.Size = silent
-    on_verdict_lem verdict.Check = silent
-    on_verdict_lem verdict.Reserved = silent
+    on_body_lem : (r : ReadBody) → read_body body ≡ r → Short (on_body port a r)
+    unfolding on_app on_body
+    on_body_lem (Ok (addr, s)) e = either (is_own a addr) (on_read_lem addr s (data_bytes body addr s b e) (agent_read addr s) refl) silent
+    on_body_lem (Err line.Length) e = silent
+    on_body_lem (Err line.Stuffing) e = silent
+    on_body_lem (Err line.Size) e = silent
+    on_body_lem (Err line.Check) e = silent
+    on_body_lem (Err line.Reserved) e = silent
 
 -- whatever a call on a good agent sends is at most 545 bytes, flags and stuffing included: the length that document 01
 -- asks of the reply buffer
 pub sent_most : (a : Agent) (call : Call) → Good a → BytesCall call → length (act a call).line ≤ least_room
-unfolding tick_call frame_call on_frame on_body
+unfolding tick_call frame_call on_frame
 sent_most a (tick xs) g b =
     by_test Fits (sound a) (λ e. by_test Fits (eqb (length xs) image) (λ h. omega arith) (λ h. omega arith)) (λ e. omega arith)
 sent_most a (frame port body room) g b =
     by_test Fits (sound a)
     (λ e. by_test Fits (ltb room least_room) (λ h. omega arith)
-    (λ h. by_test Fits (eqb port 1 || eqb port 2) (λ p. short_fits (on_verdict_lem port (good_parts a g) body b (read_body body).verdict)) (λ p. omega arith)))
+    (λ h. by_test Fits (eqb port 1 || eqb port 2) (λ p. short_fits (on_body_lem port (good_parts a g) body b (read_body body) refl)) (λ p. omega arith)))
     (λ e. omega arith)

@@ -13,8 +13,9 @@ use Rattle.fields.specs.Fields.{fields_at, numbers}
 use Rattle.frame_reading.specs.Reading.{read_app}
 use Rattle.frame_kinds.specs.declared.kinds.Frame.{Frame}
 use Rattle.frame_kinds.specs.declared.kinds.Frame.TheVariants.{Sync, SafeRead, SafeWrite, PlainRead, PlainWrite, SafeResponse, PlainSyncResponse, PlainResponse, TidAssignment, SidAssignment, SidAssignment4, Acknowledgement, Invariants}
-use Rattle.frame_forms.specs.declared.Read.{Read}
-use Rattle.frame_forms.specs.declared.Read.TheVariants.{Valid, Kind, Form}
+use Rattle.std.specs.Prelude.{Ok, Err}
+use Rattle.frame_forms.specs.Forms.{Read}
+use Rattle.frame_forms.specs.declared.FrameFault.TheVariants.{Kind, Form}
 use Rattle.frame_writing.proofs.Standing.{Stands}
 use Rattle.frame_writing.proofs.ValidStands.{stands}
 use Rattle.rules.specs.FrameCall.{serves, served, is_sil4, agent_read}
@@ -23,9 +24,9 @@ use Rattle.rules.specs.FrameCall.{serves, served, is_sil4, agent_read}
 record Through (b c : Bool) (r : Read) (f : Frame) : Type 0 where
   typ_served : b ≡ true
   not_sil4 : c ≡ false
-  read : r ≡ Valid f
+  read : r ≡ Ok f
 
-through : (b c : Bool) (r : Read) (f : Frame) → choose b (choose c Form r) Kind ≡ Valid f → Through b c r f
+through : (b c : Bool) (r : Read) (f : Frame) → choose b (choose c (Err Form) r) (Err Kind) ≡ Ok f → Through b c r f
 through true false r f e = record { typ_served = refl; not_sil4 = refl; read = e }
 through true true r f e = absurd (let z : ◌≡◌ {A = ℕ} 0 1 = cc in omega arith)
 through false c r f e = absurd (let z : ◌≡◌ {A = ℕ} 0 1 = cc in omega arith)
@@ -57,11 +58,11 @@ module _ (a : ℕ) (s : List ℕ) (p : served (number_at s 0 1) ≡ true) (q : i
   standing_served (Invariants dest src cyc seq config logic) st = unserved _ _ _ st.head refl
 
 -- a frame that the module reads is the one that the reader of frames reads
-pub reads_frame : (addr : ℕ) (s : List ℕ) (f : Frame) → agent_read addr s ≡ Valid f → read_app addr s ≡ Valid f
+pub reads_frame : (addr : ℕ) (s : List ℕ) (f : Frame) → agent_read addr s ≡ Ok f → read_app addr s ≡ Ok f
 unfolding agent_read
 reads_frame addr s f e = (through (served (number_at s 0 1)) (is_sil4 s) (read_app addr s) f e).read
 
-pub reads_served : (addr : ℕ) (s : List ℕ) (f : Frame) → Bytes s → agent_read addr s ≡ Valid f → serves f ≡ true
+pub reads_served : (addr : ℕ) (s : List ℕ) (f : Frame) → Bytes s → agent_read addr s ≡ Ok f → serves f ≡ true
 unfolding agent_read
 reads_served addr s f bs e =
     let t = through (served (number_at s 0 1)) (is_sil4 s) (read_app addr s) f e in

@@ -13,10 +13,9 @@ use Rattle.frame_kinds.specs.Kinds.{app_of}
 use Rattle.frame_kinds.specs.declared.kinds.Frame.{Frame}
 use Rattle.frame_kinds.proofs.Parts.{app_parts}
 use Rattle.rules.specs.Registers.{ad_ref, sz_ref}
-use Rattle.rules.specs.Replies.{does, replies, response, sync_reply, read_reply, reply_data}
+use Rattle.rules.specs.Replies.{Deed, does, replies, response, sync_reply, read_reply, reply_data}
 use Rattle.rules.specs.State.{reg}
 use Rattle.rules.specs.declared.Agent.{Agent}
-use Rattle.rules.specs.declared.Deed.{Deed}
 
 -- ---- what is short
 

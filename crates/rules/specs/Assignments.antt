@@ -3,11 +3,10 @@ use Rattle.std.specs.Prelude.{Bool, not, ◌&&◌, ◌||◌, ℕ, eqb, leb}
 use Rattle.base.specs.Choice.{choose, within}
 use Rattle.rules.specs.Answers.{accepted, source, addressee, not_allowed, eight_others}
 use Rattle.rules.specs.Registers.{mac_at, iid_at, tid_at, sid_at, low_bytes, low_number}
-use Rattle.rules.specs.Replies.{does, acknowledges}
+use Rattle.rules.specs.Replies.{Deed, does, acknowledges}
 use Rattle.rules.specs.Sources.{is_recorded, recorded, sid_of}
 use Rattle.rules.specs.State.{nobody, store, store_all}
 use Rattle.rules.specs.declared.Agent.{Agent}
-use Rattle.rules.specs.declared.Deed.{Deed}
 
 -- 01h to 8Eh, but not 7Dh or 7Eh
 abbrev pub assignable : ℕ → Bool

@@ -1,17 +1,16 @@
 -- Document 01, "Who causes which number": counters not named there change only by writes, STATUT bits 4, 3, 2 and 0 only
 -- when a sent reply clears them. Assumes nothing.
-use Rattle.std.specs.Prelude.{Bool, true, List, [], ◌⊎◌, ◌≡◌, ℕ, ◌+◌, ◌≤◌, ◌<◌, length, take}
+use Rattle.std.specs.Prelude.{Bool, true, List, [], ◌⊎◌, ◌≡◌, ℕ, ◌+◌, ◌≤◌, ◌<◌, length, Ok}
 use Rattle.std.specs.Int.Bits.{bit_and}
 use Rattle.base.specs.Choice.{within}
 use Rattle.wire.specs.Body.{read_body}
 use Rattle.frame_kinds.specs.Kinds.{data_in}
 use Rattle.frame_kinds.specs.declared.kinds.Frame.{Frame}
 use Rattle.frame_kinds.specs.declared.kinds.Frame.TheVariants.{SafeWrite}
-use Rattle.frame_forms.specs.declared.Read.TheVariants.{Valid}
 use Rattle.rules.specs.Answers.{accepted, typ, cycle, out_of_order, outside_rules}
 use Rattle.rules.specs.Calls.{Call, frame}
 use Rattle.rules.specs.Marks.{counter, counter_by}
-use Rattle.rules.specs.Refusals.{read_of, skips_by}
+use Rattle.rules.specs.Refusals.{data_of, read_of, skips_by}
 use Rattle.rules.specs.Registers.{statut, cpt_seq, cpt_for}
 use Rattle.rules.specs.Replies.{Outcome}
 use Rattle.rules.specs.State.{reg}
@@ -23,8 +22,8 @@ is_counter i = within 0x1E 0x24 i
 
 -- a call brings a frame with its data
 pub data Brings : Call → Frame → List ℕ → Type 0 where
-  brings : {port room : ℕ} {body : List ℕ} {f : Frame} → read_of body ≡ Valid f
-      → Brings (frame port body room) f (data_in f (take (read_body body).len (read_body body).bytes))
+  brings : {port room : ℕ} {body : List ℕ} {f : Frame} → read_of body ≡ Ok f
+      → Brings (frame port body room) f (data_in f (data_of (read_body body)))
 
 -- what a call with answer n may do to register i, a counter
 pub data Counter (a : Agent) (call : Call) (n : ℕ) (b : Agent) (i : ℕ) : Type 0 where

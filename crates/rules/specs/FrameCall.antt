@@ -1,27 +1,27 @@
 -- The frame call: numbers 1 to 9, then what the kind of frame does. Assumes nothing.
-use Rattle.std.specs.Prelude.{Bool, true, false, ◌&&◌, ◌||◌, List, ℕ, eqb, length, take}
+use Rattle.std.specs.Prelude.{Bool, true, false, ◌&&◌, ◌||◌, List, ℕ, eqb, length, Ok, Err}
 use Rattle.base.specs.Choice.{choose}
 use Rattle.base.specs.Bytes.{number_at}
-use Rattle.wire.specs.Body.{read_body, verdict_number}
-use Rattle.wire.specs.declared.Body.{Body}
-use Rattle.wire.specs.declared.Verdict.{Verdict}
-use Rattle.wire.specs.declared.Verdict.TheVariants as verdict
+use Rattle.wire.specs.Body as wire
+use Rattle.wire.specs.Body.{ReadBody, read_body}
+use Rattle.wire.specs.declared.LineFault.{LineFault}
+use Rattle.wire.specs.declared.LineFault.TheVariants as line
 use Rattle.frame_kinds.specs.Kinds.{data_in}
-use Rattle.frame_reading.specs.Reading.{read_app, read_number}
+use Rattle.frame_forms.specs.Forms as forms
+use Rattle.frame_forms.specs.Forms.{Read}
+use Rattle.frame_forms.specs.declared.FrameFault.TheVariants.{Kind, Form, Check}
+use Rattle.frame_reading.specs.Reading.{read_app}
 use Rattle.frame_kinds.specs.declared.kinds.Frame.{Frame}
 use Rattle.frame_kinds.specs.declared.kinds.Frame.TheVariants.{Sync, SafeRead, SafeWrite, PlainRead, PlainWrite, SafeResponse, PlainSyncResponse, PlainResponse, TidAssignment, SidAssignment, SidAssignment4, Acknowledgement, Invariants}
-use Rattle.frame_forms.specs.declared.Read.{Read}
-use Rattle.frame_forms.specs.declared.Read.TheVariants.{Valid, Kind, Form, Check}
 use Rattle.rules.specs.Answers.{elsewhere, typ, form}
 use Rattle.rules.specs.Assignments.{on_tid, on_sid}
 use Rattle.rules.specs.Marks.{line_marked, format_marked}
 use Rattle.rules.specs.Registers.{tid_at}
-use Rattle.rules.specs.Replies.{does}
+use Rattle.rules.specs.Replies.{Deed, does}
 use Rattle.rules.specs.Requests.{reads, writes, on_request}
 use Rattle.rules.specs.State.{reg}
 use Rattle.rules.specs.Sync.{on_sync}
 use Rattle.rules.specs.declared.Agent.{Agent}
-use Rattle.rules.specs.declared.Deed.{Deed}
 
 -- by the kind of frame, with its data. The kinds that are not served are 7 with its mark, and the SIL4 assignment is 8;
 -- but `agent_read` has refused these already: it yields only frames that `serves` names (proofs/ServedFrames)
@@ -66,14 +66,14 @@ is_sil4 s = eqb (number_at s 0 1) 0xC3 && eqb (length s) 27
 
 -- application data as this module reads them
 unfoldable pub agent_read : ℕ → List ℕ → Read
-agent_read addr s = choose (served (number_at s 0 1)) (choose (is_sil4 s) Form (read_app addr s)) Kind
+agent_read addr s = choose (served (number_at s 0 1)) (choose (is_sil4 s) (Err Form) (read_app addr s)) (Err Kind)
 
 -- 7, 8, 9, then the kind
 abbrev pub on_read : ℕ → Agent → Read → List ℕ → Deed
-on_read port a (Valid f) s = on_kind port a f (data_in f s)
-on_read port a Kind s = does (read_number Kind) (format_marked a)
-on_read port a Form s = does (read_number Form) a
-on_read port a Check s = does (read_number Check) a
+on_read port a (Ok f) s = on_kind port a f (data_in f s)
+on_read port a (Err Kind) s = does (forms.number_of Kind) (format_marked a)
+on_read port a (Err Form) s = does (forms.number_of Form) a
+on_read port a (Err Check) s = does (forms.number_of Check) a
 
 -- 6 unless the address is the own TID, 90h or FFh
 abbrev pub is_own : Agent → ℕ → Bool
@@ -83,16 +83,16 @@ unfoldable pub on_app : ℕ → Agent → ℕ → List ℕ → Deed
 on_app port a addr s = choose (is_own a addr) (on_read port a (agent_read addr s) s) (does elsewhere a)
 
 -- 1 to 4 are the line's, 5 another station's
-abbrev pub on_verdict : ℕ → Agent → Verdict → Body → Deed
-on_verdict port a verdict.Valid b = on_app port a b.addr (take b.len b.bytes)
-on_verdict port a verdict.Length b = does (verdict_number verdict.Length) (line_marked a)
-on_verdict port a verdict.Stuffing b = does (verdict_number verdict.Stuffing) (line_marked a)
-on_verdict port a verdict.Size b = does (verdict_number verdict.Size) (line_marked a)
-on_verdict port a verdict.Check b = does (verdict_number verdict.Check) (line_marked a)
-on_verdict port a verdict.Reserved b = does (verdict_number verdict.Reserved) a
+abbrev pub on_fault : Agent → LineFault → Deed
+on_fault a line.Length = does (wire.number_of line.Length) (line_marked a)
+on_fault a line.Stuffing = does (wire.number_of line.Stuffing) (line_marked a)
+on_fault a line.Size = does (wire.number_of line.Size) (line_marked a)
+on_fault a line.Check = does (wire.number_of line.Check) (line_marked a)
+on_fault a line.Reserved = does (wire.number_of line.Reserved) a
 
-unfoldable pub on_body : ℕ → Agent → Body → Deed
-on_body port a b = on_verdict port a b.verdict b
+unfoldable pub on_body : ℕ → Agent → ReadBody → Deed
+on_body port a (Ok b) = on_app port a b.0 b.1
+on_body port a (Err e) = on_fault a e
 
 -- a body received on a port
 unfoldable pub on_frame : ℕ → Agent → List ℕ → Deed

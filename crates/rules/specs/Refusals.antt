@@ -1,15 +1,14 @@
 -- Document 01, "Who causes which number": what each refusal changes. A refusal sends nothing, and changes only what its
 -- row says. Assumes nothing.
-use Rattle.std.specs.Prelude.{Bool, true, false, ◌&&◌, ◌||◌, List, [], ◌≡◌, ℕ, zero, suc, ◌+◌, ◌-◌, ◌<◌, eqb, length, get_or, take}
+use Rattle.std.specs.Prelude.{Bool, true, false, ◌&&◌, ◌||◌, List, [], ◌≡◌, ℕ, zero, suc, ◌+◌, ◌-◌, ◌<◌, eqb, length, get_or, Ok, Err}
 use Rattle.std.specs.Int.Bits.{bit_or}
 use Rattle.base.specs.Choice.{choose, within}
 use Rattle.fields.specs.Fields.{numbers}
-use Rattle.wire.specs.Body.{read_body}
+use Rattle.wire.specs.Body.{ReadBody, read_body}
 use Rattle.frame_kinds.specs.Kinds.{head_of}
 use Rattle.frame_kinds.specs.declared.kinds.Frame.{Frame}
 use Rattle.frame_kinds.specs.declared.kinds.Frame.TheVariants.{Sync, SafeRead, SafeWrite, PlainRead, PlainWrite, SafeResponse, PlainSyncResponse, PlainResponse, TidAssignment, SidAssignment, SidAssignment4, Acknowledgement, Invariants}
-use Rattle.frame_forms.specs.declared.Read.{Read}
-use Rattle.frame_forms.specs.declared.Read.TheVariants.{Valid, Kind, Form, Check}
+use Rattle.frame_forms.specs.Forms.{Read}
 use Rattle.rules.specs.Answers.{body_length, fcs, reserved, elsewhere, typ, form, crc, source, addressee, cycle, repeat, out_of_order, too_many, outside_rules, not_allowed, eight_others, unsound, reply_room, host_input, outside_window}
 use Rattle.rules.specs.Calls.{Call, tick, frame, left_in}
 use Rattle.rules.specs.Fallback.{withheld, ground_after, enter_fallback}
@@ -188,19 +187,26 @@ pub record Makes (row : Change) (a b : Agent) : Type 0 where
 
 -- ---- a refused call
 
+-- the address and the application data of a body that was read; a refused one has none
+abbrev pub address_of : ReadBody → ℕ
+address_of (Ok b) = b.0
+address_of (Err e) = 0
+
+abbrev pub data_of : ReadBody → List ℕ
+data_of (Ok b) = b.1
+data_of (Err e) = []
+
 -- what the body of a call is read as
 abbrev pub read_of : List ℕ → Read
-read_of body = agent_read (read_body body).addr (take (read_body body).len (read_body body).bytes)
+read_of body = agent_read (address_of (read_body body)) (data_of (read_body body))
 
 -- whether it is a sync (TYP 00h), and whether the sync comes in RUN
 abbrev pub is_sync : Frame → Bool
 is_sync f = eqb (get_or (numbers (head_of f)) 0 0) 0x00
 
 abbrev pub reads_sync : Read → Bool
-reads_sync (Valid f) = is_sync f
-reads_sync Kind = false
-reads_sync Form = false
-reads_sync Check = false
+reads_sync (Ok f) = is_sync f
+reads_sync (Err e) = false
 
 abbrev pub brings_sync : Call → Bool
 brings_sync (tick xs) = false
@@ -226,10 +232,8 @@ skips_by a (Acknowledgement src dst sec mac) = 0
 skips_by a (Invariants dest src cyc seq config logic) = 0
 
 abbrev pub skips_read : Agent → Read → ℕ
-skips_read a (Valid f) = skips_by a f
-skips_read a Kind = 0
-skips_read a Form = 0
-skips_read a Check = 0
+skips_read a (Ok f) = skips_by a f
+skips_read a (Err e) = 0
 
 abbrev pub skips : Agent → Call → ℕ
 skips a (tick xs) = 0

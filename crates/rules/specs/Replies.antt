@@ -1,5 +1,5 @@
 -- Replies: built after the effect, and sent. Assumes nothing.
-use Rattle.std.specs.Prelude.{Bool, ◌||◌, List, [], ℕ, ◌+◌, ◌-◌, ◌%◌, eqb, ltb, take, drop, set}
+use Rattle.std.specs.Prelude.{Bool, Option, Some, None, ◌||◌, List, [], ℕ, ◌+◌, ◌-◌, ◌%◌, eqb, ltb, take, drop, set}
 use Rattle.std.specs.Int.Bits.{bit_and, bit_or}
 use Rattle.base.specs.Choice.{choose}
 use Rattle.frame_writing.specs.Writing.{frame_line}
@@ -9,9 +9,12 @@ use Rattle.rules.specs.Registers.{mac_at, statut, ad_ref, sz_ref, conf, low_numb
 use Rattle.rules.specs.Sources.{sid_of}
 use Rattle.rules.specs.State.{reg, store}
 use Rattle.rules.specs.declared.Agent.{Agent}
-use Rattle.rules.specs.declared.Deed.{Deed}
-use Rattle.rules.specs.declared.Reply.{Reply}
-use Rattle.rules.specs.declared.Reply.TheVariants.{Silent, Says}
+
+-- what a frame does: the answer, the agent afterwards, and what is to be sent, if anything
+pub record Deed : Type 0 where
+  pub answer : ℕ
+  pub agent : Agent
+  pub reply : Option Frame
 
 -- what a call does in the end; `line` is the bytes that were sent, none if nothing was
 pub record Outcome : Type 0 where
@@ -20,10 +23,10 @@ pub record Outcome : Type 0 where
   pub line : List ℕ
 
 abbrev pub does : ℕ → Agent → Deed
-does n a = record { answer = n; agent = a; reply = Silent }
+does n a = record { answer = n; agent = a; reply = None }
 
 abbrev pub replies : Agent → Frame → Deed
-replies a f = record { answer = 0; agent = a; reply = Says f }
+replies a f = record { answer = 0; agent = a; reply = Some f }
 
 abbrev pub outcome : ℕ → Agent → Outcome
 outcome n a = record { answer = n; agent = a; line = [] }
@@ -80,9 +83,9 @@ send_frame f n a =
     choose (muted a) (outcome n a)
     (record { answer = n; agent = store statut (bit_and (reg a statut) 0x80) a; line = frame_line 0xF0 f (reply_data a f) })
 
-abbrev pub send_reply : Reply → ℕ → Agent → Outcome
-send_reply Silent n a = outcome n a
-send_reply (Says f) n a = send_frame f n a
+abbrev pub send_reply : Option Frame → ℕ → Agent → Outcome
+send_reply None n a = outcome n a
+send_reply (Some f) n a = send_frame f n a
 
 unfoldable pub sent : Deed → Outcome
 sent d = send_reply d.reply d.answer d.agent

@@ -4,12 +4,11 @@ use Rattle.base.specs.Choice.{choose}
 use Rattle.rules.specs.Answers.{source, addressee, cycle, repeat, out_of_order, too_many}
 use Rattle.rules.specs.Fixed.{limit_of}
 use Rattle.rules.specs.Marks.{sequence_marked, skip_marked}
-use Rattle.rules.specs.Replies.{does, read_reply}
+use Rattle.rules.specs.Replies.{Deed, does, read_reply}
 use Rattle.rules.specs.Sources.{sid_of}
 use Rattle.rules.specs.State.{is_heard, nobody, with_taken}
 use Rattle.rules.specs.Writes.{on_write}
 use Rattle.rules.specs.declared.Agent.{Agent}
-use Rattle.rules.specs.declared.Deed.{Deed}
 
 -- the first SEQ of a cycle is the complement of CYC plus one, modulo 256
 abbrev pub first_seq : ℕ → ℕ

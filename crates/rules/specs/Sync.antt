@@ -6,12 +6,11 @@ use Rattle.rules.specs.Fallback.{released, enter_fallback, enter_run}
 use Rattle.rules.specs.Grounds.{by_wrong_cycle}
 use Rattle.rules.specs.Marks.{sequence_marked, window_marked}
 use Rattle.rules.specs.Registers.{out_rep}
-use Rattle.rules.specs.Replies.{does, sync_reply}
+use Rattle.rules.specs.Replies.{Deed, does, sync_reply}
 use Rattle.rules.specs.Sources.{is_recorded}
 use Rattle.rules.specs.State.{is_heard, unmarked, nobody, running, reg, with_cycle, with_sync, with_mark}
 use Rattle.rules.specs.Window.{in_window}
 use Rattle.rules.specs.declared.Agent.{Agent}
-use Rattle.rules.specs.declared.Deed.{Deed}
 
 -- a repeat: heard, CYC = c and the same source as the last accepted sync
 abbrev pub is_repeat : Agent → ℕ → ℕ → Bool

@@ -6,10 +6,9 @@ use Rattle.rules.specs.Answers.{accepted, outside_rules}
 use Rattle.rules.specs.Fallback.{released, withheld, enter_fallback}
 use Rattle.rules.specs.Grounds.{by_order}
 use Rattle.rules.specs.Registers.{cnf_rep, cnf_cyc}
-use Rattle.rules.specs.Replies.{does}
+use Rattle.rules.specs.Replies.{Deed, does}
 use Rattle.rules.specs.State.{running, with_idle, store_all}
 use Rattle.rules.specs.declared.Agent.{Agent}
-use Rattle.rules.specs.declared.Deed.{Deed}
 use Rattle.rules.specs.declared.Span.{Span}
 use Rattle.rules.specs.declared.Span.TheVariants.{Release, CycleTime, Limits, Counters, Config, Outputs, Outside}
 

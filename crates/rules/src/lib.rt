@@ -3,8 +3,6 @@
 
 ghost use Rattle.std.specs.Prelude.{◌≡◌};
 
-use frame_kinds::kinds::Frame;
-
 // What is fixed at power-up: no call changes it.
 #[repr(C)]
 #[derive(Clone, Copy)]
@@ -52,21 +50,6 @@ pub enum Span {
     Config,
     Outputs,
     Outside,
-}
-
-// What the module is to send because of a frame: nothing, or a frame.
-#[derive(Clone, Copy)]
-pub enum Reply {
-    Silent,
-    Says(Frame),
-}
-
-// What a frame does: the answer, the agent afterwards, and what is to be sent.
-#[derive(Clone, Copy)]
-pub struct Deed {
-    pub answer: u8,
-    pub agent: Agent,
-    pub reply: Reply,
 }
 
 // Returns its argument: a crate must have at least one function.

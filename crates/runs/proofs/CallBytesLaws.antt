@@ -38,8 +38,8 @@ as_tick kind port bytes room h = choose_true _ _ (eq-eqb kind 0 h)
 pub as_frame : (kind port : ℕ) (bytes : List ℕ) (room : ℕ) → (kind ≡ 0 → ⊥) → call_of kind port bytes room ≡ frame port bytes room
 as_frame kind port bytes room n = choose_false _ _ (ne_eqb kind 0 n)
 
-pub continues_as : (a : Agent) (z y : Call) (answer : ℕ) (b : Agent) → z ≡ y → Continues a y answer b → Continues a z answer b
-continues_as a z y answer b e c = subst (λ (w : Call). Continues a w answer b) (sym e) c
+pub continues_as : (a : Agent) (z y : Call) (n answer : ℕ) (b : Agent) → z ≡ y → n ≡ answer → Continues a y answer b → Continues a z n b
+continues_as a z y n answer b e d c = subst (λ (w : Call). Continues a w n b) (sym e) (subst (λ (m : ℕ). Continues a y m b) (sym d) c)
 
 same_call : (x : Call) → call_of (kind_of x) (port_of x) (bytes_in x) (room_of x) ≡ x
 same_call (tick xs) = refl

@@ -24,21 +24,20 @@ pub fn run_calls(
 ) -> Agent
     ensures { RunsAny limit calls.now (length reply.old) (length log.old) result log.new }
 {
-    let mut a = promised::power_up(mac, iid, ver, limit);
+    let mut agent = promised::power_up(mac, iid, ver, limit);
     if log.len() < RECORD {
-        return a;
+        return agent;
     }
-    let mut to = put(0, a, log, 0);
+    let mut to = put(0, &agent, log, 0);
     let mut at: usize = 0;
+    // No `for`: only a call that was read tells where the next begins.
     while at < calls.len() {
         if log.len() - to < RECORD {
-            return a;
+            return agent;
         }
-        let s = step(a, calls, at, reply);
-        let agent = s.agent;
-        to = put(s.answer, agent, log, to);
-        a = agent;
-        at = s.next;
+        let made = step(&mut agent, calls, at, reply);
+        to = put(made.answer, &agent, log, to);
+        at = made.next;
     }
-    a
+    agent
 }

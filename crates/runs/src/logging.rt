@@ -11,12 +11,10 @@ pub const RECORD: usize = 258;
 
 // Writes a record at index `at`; returns the next index.
 #[tactic(auto, using(crate::proofs::LogLaws::two_then))]
-pub fn put(answer: u8, a: Agent, log: &mut [u8], at: usize) -> usize
+pub fn put(answer: u8, agent: &Agent, log: &mut [u8], at: usize) -> usize
     requires { at + record_size ≤ length log.old }
-    ensures { (result ≡ at + record_size) × (length a.regs ≡ 256) × (log.new ≡ sets log.old at (record_of answer a)) }
+    ensures { (result ≡ at + record_size) × (length agent.now.regs ≡ 256) × (log.new ≡ sets log.old at (record_of answer agent.now)) }
 {
-    let head = [answer, a.mode];
-    let next = copy_at(&head, log, at);
-    let regs = a.regs;
-    copy_at(&regs, log, next)
+    let next = copy_at(&[answer, agent.mode], log, at);
+    copy_at(&agent.regs, log, next)
 }

@@ -1,3 +1,3 @@
-pub mod RunningLaws
 pub mod PlayingLaws
+pub mod HeaderLaws
 pub mod ScriptGood

@@ -1,17 +1,17 @@
 // A script, line by line: a module from power-up, and how many lines it has played.
 ghost use Rattle.std.specs.Prelude.{◌≡◌, ◌≤◌, length};
-ghost use Rattle.text.specs.Putting.{put_at, place_after};
-ghost use Rattle.agent_replies.specs.Handling.{told};
-ghost use Rattle.script_lines.specs.Forms.{line_in, step_in};
+ghost use Rattle.text.specs.Texts.{with_piece};
+ghost use Rattle.script_text.specs.Made.{outcome_of};
+ghost use Rattle.script_lines.specs.Forms.{line_of, step_in};
 ghost use Rattle.script_text.specs.Printing.{printed};
 ghost use Rattle.script.specs.Playing.{start, after, shown};
 
-use agent_replies::sending::Handled;
+use agent_state::refusal::answer;
 use rules::Agent;
 use script_lines::doing::{do_form, no_reply, script_module};
-use script_lines::forms::{Form, is_bad, no_bytes, read_line};
-use script_text::{View, no_text, put_line};
-use text::putting::put_text;
+use script_lines::forms::{Form, no_bytes, read_line};
+use script_text::{Made, View, put_line};
+use text::texts::Text;
 
 #[derive(Clone, Copy)]
 pub struct Player {
@@ -19,74 +19,60 @@ pub struct Player {
     pub lines: u64,
 }
 
-// The player after a line, and the index after the line's text.
-#[derive(Clone, Copy)]
-pub struct Played {
-    pub player: Player,
-    pub next: usize,
+// Puts the text of a line on the page, whole or not at all.
+fn show<const ROOM: usize>(page: &mut Text<ROOM>, view: View, number: u64, bad: bool, made: Made)
+    requires { length made.sent.now ≤ 545 }
+    ensures short { length (printed view number bad (outcome_of made.entry)) ≤ 1700 }
+    ensures text { page.new ≡ with_piece ROOM page.old (printed view number bad (outcome_of made.entry)) }
+{
+    // room for the longest line
+    let mut text = Text::<1700>::new();
+    put_line(&mut text, view, number, bad, made);
+    page.add(text.as_slice());
 }
 
-// Before the first line.
-pub fn start() -> Player
-    ensures { result ≡ start }
-{
-    let agent = script_module();
-    Player { agent, lines: 0 }
-}
+impl Player {
+    // Before the first line.
+    pub fn new() -> Self
+        ensures { result ≡ start }
+    {
+        Player {
+            agent: script_module(),
+            lines: 0,
+        }
+    }
 
-// Puts the text of a line at index `at` of the output, whole or not at all; returns the next index.
-fn show(
-    out: &mut [u8],
-    at: usize,
-    view: View,
-    number: u64,
-    bad: bool,
-    h: Handled,
-    reply: &[u8; 545],
-) -> usize
-    requires { h.sent ≤ 545 }
-    ensures { (length (printed view number bad (told h reply.now)) ≤ 1700) × (result ≡ place_after (length out.old) at (printed view number bad (told h reply.now))) × (out.new ≡ put_at out.old at (printed view number bad (told h reply.now))) }
-{
-    let mut text = no_text();
-    let n = put_line(&mut text, view, number, bad, h, reply);
-    put_text(out, at, &text[..n])
-}
+    fn play_form<const ROOM: usize>(
+        &mut self,
+        view: View,
+        form: Option<Form>,
+        bytes: &[u8; 600],
+        page: &mut Text<ROOM>,
+    )
+        ensures short { length (shown view self.old (step_in form bytes.now)) ≤ 1700 }
+        ensures player { self.new ≡ after self.old (step_in form bytes.now) }
+        ensures text { page.new ≡ with_piece ROOM page.old (shown view self.old (step_in form bytes.now)) }
+    {
+        let mut reply = no_reply();
+        let done = do_form(&mut self.agent, form, bytes, &mut reply);
+        let made = Made {
+            answer: answer(&done),
+            agent: &self.agent,
+            sent: done.unwrap_or(&[]),
+        };
+        let number = self.lines.wrapping_add(1);
+        show(page, view, number, form.is_none(), made);
+        self.lines = number;
+    }
 
-fn play_form(
-    p: Player,
-    view: View,
-    form: Form,
-    bytes: &[u8; 600],
-    out: &mut [u8],
-    at: usize,
-) -> Played
-    ensures { (length (shown view p (step_in form bytes.now)) ≤ 1700) × (result.player ≡ after p (step_in form bytes.now)) × (result.next ≡ place_after (length out.old) at (shown view p (step_in form bytes.now))) × (out.new ≡ put_at out.old at (shown view p (step_in form bytes.now))) }
-{
-    let agent = p.agent;
-    let mut reply = no_reply();
-    let h = do_form(agent, form, bytes, &mut reply);
-    let number = p.lines.wrapping_add(1);
-    let next = show(out, at, view, number, is_bad(form), h, &reply);
-    let left = h.agent;
-    let player = Player {
-        agent: left,
-        lines: number,
-    };
-    Played { player, next }
-}
-
-// Plays a line of `len` characters, of which the buffer keeps the first; its text goes to index `at` of the output.
-pub fn play_line(
-    p: Player,
-    view: View,
-    line: &[u8],
-    len: usize,
-    out: &mut [u8],
-    at: usize,
-) -> Played
-    ensures { (length (shown view p (line_in line.now len)) ≤ 1700) × (result.player ≡ after p (line_in line.now len)) × (result.next ≡ place_after (length out.old) at (shown view p (line_in line.now len))) × (out.new ≡ put_at out.old at (shown view p (line_in line.now len))) }
-{
-    let mut bytes = no_bytes();
-    let form = read_line(line, len, &mut bytes);
-    play_form(p, view, form, &bytes, out, at)
+    // Plays a line; its text goes on the page, whole or not at all.
+    pub fn play_line<const ROOM: usize>(&mut self, view: View, line: &[u8], page: &mut Text<ROOM>)
+        ensures short { length (shown view self.old (line_of line.now)) ≤ 1700 }
+        ensures player { self.new ≡ after self.old (line_of line.now) }
+        ensures text { page.new ≡ with_piece ROOM page.old (shown view self.old (line_of line.now)) }
+    {
+        let mut bytes = no_bytes();
+        let form = read_line(line, &mut bytes);
+        self.play_form(view, form, &bytes, page);
+    }
 }

@@ -1,8 +1,8 @@
 -- A good module is good after every line, whatever the line is; so every tick call is answered 0, as the definition has it, and no
 -- line is answered 19. And a line sends at most 545 bytes. Assumes nothing.
+use Rattle.std.specs.Prelude.{None, Option, Some}
 use mathlib.Core.Path.{◌≡◌, refl}
 use mathlib.Core.List.{List, [], ◌∷◌}
-use mathlib.Core.Option.{Option, none, some}
 use Prim.Native.Nat.{ℕ, zero, suc, ◌-◌, ◌≤◌, ◌<◌}
 use native.Mathlib.Omega.{arith}
 use borrow.Author.Tests.{eq-eqb, eqb-true, ltb-false}
@@ -15,10 +15,6 @@ use Rattle.base.proofs.Bytes.{bytes_nil, bytes_cons, bytes_take, bytes_drop}
 use Rattle.base.proofs.Choosing.{by_test}
 use Rattle.text.specs.Decimal.{decimal_of}
 use Rattle.text.specs.Hex.{digit_value, pair_of, paired, hex_pairs}
-use Rattle.text.specs.declared.decimal.Decimal.{Decimal}
-use Rattle.text.specs.declared.decimal.Decimal.TheVariants.{Number, NotNumber}
-use Rattle.text.specs.declared.hex.Pair.{Pair}
-use Rattle.text.specs.declared.hex.Pair.TheVariants.{Byte, Other}
 use Rattle.rules.specs.Calls as calls
 use Rattle.rules.specs.Calls.{least_room, tick_call}
 use Rattle.rules.specs.Fixed.{doors_limit, fixed_by}
@@ -33,9 +29,9 @@ use Rattle.script_lines.specs.Forms.{Step, ticks, frame, inputs, bad, longest, m
 use Rattle.script_lines.specs.Doing.{script_module, held_inputs, after_ticks, done}
 
 -- ---- what hex digits say is bytes
-SaysByte : Pair → Type 0
-SaysByte (Byte x) = x < 256
-SaysByte Other = Unit
+SaysByte : Option ℕ → Type 0
+SaysByte (Some x) = x < 256
+SaysByte None = Unit
 
 pair_byte : (a b : ℕ) → SaysByte (pair_of a b)
 unfolding pair_of SaysByte
@@ -48,8 +44,8 @@ pair_byte a b =
     omega arith))
 
 SayBytes : Option (List ℕ) → Type 0
-SayBytes none = Unit
-SayBytes (some bs) = Bytes bs
+SayBytes None = Unit
+SayBytes (Some bs) = Bytes bs
 
 pairs_bytes : (s : List ℕ) → SayBytes (hex_pairs s)
 unfolding hex_pairs SayBytes SaysByte
@@ -57,10 +53,10 @@ pairs_bytes [] = bytes_nil
 pairs_bytes (a ∷ []) = tt
 pairs_bytes (a ∷ b ∷ s) = joined (pair_of a b) (hex_pairs s) (pair_byte a b) (pairs_bytes s)
   where
-    joined : (p : Pair) (o : Option (List ℕ)) → SaysByte p → SayBytes o → SayBytes (paired p o)
-    joined (Byte x) none h k = tt
-    joined (Byte x) (some bs) h k = bytes_cons x bs h k
-    joined Other o h k = tt
+    joined : (p : Option ℕ) (o : Option (List ℕ)) → SaysByte p → SayBytes o → SayBytes (paired p o)
+    joined (Some x) None h k = tt
+    joined (Some x) (Some bs) h k = bytes_cons x bs h k
+    joined None o h k = tt
 
 -- ---- so a line's body and inputs are bytes, and there are 64 inputs
 pub Sized : Step → Type 0
@@ -69,20 +65,20 @@ Sized (frame port body) = Bytes body
 Sized (inputs xs) = (length xs ≡ 64) × Bytes xs
 Sized bad = Unit
 
-ticks_sized : (d : Decimal) → Sized (ticks_of d)
+ticks_sized : (d : Option ℕ) → Sized (ticks_of d)
 unfolding Sized
-ticks_sized (Number n) = tt
-ticks_sized NotNumber = tt
+ticks_sized (Some n) = tt
+ticks_sized None = tt
 
 frame_sized : (port : ℕ) (o : Option (List ℕ)) → SayBytes o → Sized (frame_of port o)
 unfolding Sized SayBytes
-frame_sized port none h = tt
-frame_sized port (some body) h = h
+frame_sized port None h = tt
+frame_sized port (Some body) h = h
 
 inputs_sized : (o : Option (List ℕ)) → SayBytes o → Sized (inputs_of o)
 unfolding Sized SayBytes
-inputs_sized none h = tt
-inputs_sized (some xs) h = by_test Sized (eqb (length xs) 64) (λ e. (eqb-true (length xs) 64 e, h)) (λ e. tt)
+inputs_sized None h = tt
+inputs_sized (Some xs) h = by_test Sized (eqb (length xs) 64) (λ e. (eqb-true (length xs) 64 e, h)) (λ e. tt)
 
 bad_sized : Sized bad
 unfolding Sized

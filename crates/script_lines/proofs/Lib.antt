@@ -1,4 +1,4 @@
 pub mod FormLaws
 pub mod DoingLaws
-pub mod LineKept
+pub mod LineShown
 pub mod GoodLines

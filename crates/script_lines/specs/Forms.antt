@@ -1,14 +1,11 @@
 -- Document 01, "The script program": the forms of a line. Assumes nothing.
-use Rattle.std.specs.Prelude.{Bool, true, false, List, ℕ, ◌-◌, eqb, ltb, length, take, drop, get_or}
-use Rattle.std.proofs.Math.Option.{Option, none, some}
+use Rattle.std.specs.Prelude.{Bool, true, false, List, ℕ, ◌-◌, eqb, ltb, length, take, drop, get_or, None, Option, Some}
 use Rattle.base.specs.Choice.{choose, within}
 use Rattle.rules.specs.Registers.{image}
 use Rattle.text.specs.Decimal.{decimal_of}
 use Rattle.text.specs.Hex.{hex_pairs}
-use Rattle.text.specs.declared.decimal.Decimal.{Decimal}
-use Rattle.text.specs.declared.decimal.Decimal.TheVariants.{Number, NotNumber}
 use Rattle.script_lines.specs.declared.forms.Form.{Form}
-use Rattle.script_lines.specs.declared.forms.Form.TheVariants.{Ticks, Frame, Inputs, Bad}
+use Rattle.script_lines.specs.declared.forms.Form.TheVariants.{Ticks, Frame, Inputs}
 
 -- what a line asks for
 pub data Step : Type 0 where
@@ -25,19 +22,19 @@ abbrev pub most_ticks : ℕ
 most_ticks = 60000
 
 -- `T`, a space and 1 to 60000 (ticks, no leading zero)
-abbrev pub ticks_of : Decimal → Step
-ticks_of (Number n) = ticks n
-ticks_of NotNumber = bad
+abbrev pub ticks_of : Option ℕ → Step
+ticks_of (Some n) = ticks n
+ticks_of None = bad
 
 -- a port digit, a space and the body in pairs of hex digits, perhaps none
 abbrev pub frame_of : ℕ → Option (List ℕ) → Step
-frame_of port none = bad
-frame_of port (some body) = frame port body
+frame_of port None = bad
+frame_of port (Some body) = frame port body
 
 -- `I`, a space and 128 hex digits
 abbrev pub inputs_of : Option (List ℕ) → Step
-inputs_of none = bad
-inputs_of (some xs) = choose (eqb (length xs) image) (inputs xs) bad
+inputs_of None = bad
+inputs_of (Some xs) = choose (eqb (length xs) image) (inputs xs) bad
 
 -- by the first character and what follows the space
 unfoldable pub form_of : ℕ → List ℕ → Step
@@ -53,17 +50,13 @@ line_of s =
     choose (ltb longest (length s)) bad
     (choose (eqb (get_or s 1 0) 0x20) (form_of (get_or s 0 0) (drop 2 s)) bad)
 
--- a line of len characters, of which a buffer keeps the first; if it does not hold them all, the line is bad
-unfoldable pub line_in : List ℕ → ℕ → Step
-line_in line len = choose (ltb (length line) len) bad (line_of (take len line))
-
 -- ---- the steps of the code
 -- a form together with its bytes
-abbrev pub step_in : Form → List ℕ → Step
-step_in (Ticks n) bytes = ticks n
-step_in (Frame port n) bytes = frame port (take n bytes)
-step_in Inputs bytes = inputs (take image bytes)
-step_in Bad bytes = bad
+abbrev pub step_in : Option Form → List ℕ → Step
+step_in (Some (Ticks n)) bytes = ticks n
+step_in (Some (Frame port n)) bytes = frame port (take n bytes)
+step_in (Some Inputs) bytes = inputs (take image bytes)
+step_in None bytes = bad
 
 abbrev pub is_bad : Step → Bool
 is_bad (ticks n) = false
@@ -71,12 +64,6 @@ is_bad (frame port body) = false
 is_bad (inputs xs) = false
 is_bad bad = true
 
-abbrev pub is_bad_form : Form → Bool
-is_bad_form (Ticks n) = false
-is_bad_form (Frame port n) = false
-is_bad_form Inputs = false
-is_bad_form Bad = true
-
-abbrev pub ticks_form : Decimal → Form
-ticks_form (Number n) = Ticks n
-ticks_form NotNumber = Bad
+abbrev pub ticks_form : Option ℕ → Option Form
+ticks_form (Some n) = Some (Ticks n)
+ticks_form None = None

@@ -1,21 +1,17 @@
 // The module of a script, and what a line does to it.
-ghost use Rattle.std.specs.Prelude.{◌≡◌, true, ◌≤◌, length, take, replicate};
+ghost use Rattle.std.specs.Prelude.{◌≡◌, ◌≤◌, length, take, replicate};
 ghost use Rattle.rules.specs.Calls.{tick_call, frame_call};
 ghost use Rattle.rules.specs.Registers.{image};
-ghost use Rattle.agent_replies.specs.Handling.{told};
-ghost use Rattle.agent_rest.specs.Rest.{at_rest};
 ghost use Rattle.script_lines.specs.Forms.{step_in};
-ghost use Rattle.script_lines.specs.Doing.{script_module, held_inputs, after_ticks, done};
+ghost use Rattle.script_lines.specs.Doing.{script_module, held_inputs, after_ticks, done, told};
 
 use crate::forms::{Form, IMAGE};
 use agent::calls;
 use agent::power_up::power_up;
-use agent_replies::sending::Handled;
-use agent_rest::{at_rest, rest_ticks};
-use agent_state::answers::ACCEPTED;
+use agent_rest::{is_at_rest, rest_ticks};
 use agent_state::limit::DOORS_LIMIT;
+use agent_state::refusal::Refusal;
 use agent_state::registers::INPUTS;
-use console::blocks::least;
 use rules::Agent;
 
 // The module at power-up: MAC 1, IID 2, VER 0 and the limit of doors, 64.
@@ -32,75 +28,75 @@ pub fn no_reply() -> [u8; 545]
     [0; 545]
 }
 
-// One tick, with the inputs held.
-fn tick_held(a: Agent) -> Agent
-    ensures { result ≡ (tick_call a (held_inputs a)).agent }
+// One tick, with the inputs held. A tick that is refused leaves the module as it was.
+fn tick_held(agent: &mut Agent)
+    ensures { agent.new ≡ (tick_call agent.old (held_inputs agent.old)).agent }
 {
-    let regs = a.regs;
-    let from = INPUTS;
-    let end = from + IMAGE;
-    let next = calls::tick(a, &regs[from..end]);
-    next.agent
+    let regs = agent.regs;
+    let _ = calls::tick(agent, &regs[INPUTS..INPUTS + IMAGE]);
 }
 
-// Ticks of a module at rest, with the inputs held: they move only its clock.
-fn ticks_at_rest(a: Agent, n: u64) -> Agent
-    ensures { at_rest a ≡ true → result ≡ after_ticks n a }
+// Ticks with the inputs held. Those of a module at rest move only its clock.
+fn ticks(agent: &mut Agent, n: u64)
+    ensures { agent.new ≡ after_ticks n agent.old }
 {
-    rest_ticks(a, n)
-}
-
-fn ticks(a: Agent, n: u64) -> Agent
-    ensures { result ≡ after_ticks n a }
-{
-    let mut b = a;
-    let mut i: u64 = 0;
-    while i < n {
-        if at_rest(b) {
-            return ticks_at_rest(b, n - i);
+    for i in 0..n {
+        if is_at_rest(agent) {
+            rest_ticks(agent, n - i);
+            return;
         }
-        b = tick_held(b);
-        i += 1;
+        tick_held(agent);
     }
-    b
 }
 
 // One tick, with the inputs of a line.
-fn inputs(a: Agent, bytes: &[u8]) -> Agent
-    ensures { result ≡ (tick_call a (take image bytes.now)).agent }
+#[tactic(auto, using(std::proofs::lemmas::List::take_min))]
+fn inputs(agent: &mut Agent, bytes: &[u8])
+    ensures { agent.new ≡ (tick_call agent.old (take image bytes.now)).agent }
 {
-    let n = least(bytes.len(), IMAGE);
-    let next = calls::tick(a, &bytes[..n]);
-    next.agent
+    let n = IMAGE.min(bytes.len());
+    let _ = calls::tick(agent, &bytes[..n]);
 }
 
-// Accepted, with nothing sent.
-fn accepted(a: Agent) -> Handled
-    ensures { (result.answer ≡ 0) × (result.agent ≡ a) × (result.sent ≡ 0) }
+// A body received on a port; what is sent is lent from the reply buffer.
+fn frame<'a>(
+    agent: &mut Agent,
+    port: u8,
+    body: &[u8],
+    reply: &'a mut [u8; 545],
+) -> Result<&'a [u8], Refusal>
+    ensures most { length (told result agent.new).line ≤ 545 }
+    ensures told { told result agent.new ≡ frame_call agent.old port body.now 545 }
 {
-    Handled {
-        answer: ACCEPTED,
-        agent: a,
-        sent: 0,
-    }
+    let sent = calls::frame(agent, port, body, reply)?;
+    Ok(&reply[..usize::from(sent)])
 }
 
-fn frame(a: Agent, port: u8, bytes: &[u8], n: usize, reply: &mut [u8; 545]) -> Handled
-    ensures { (result.sent ≤ 545) × (told result reply.new ≡ frame_call a port (take n bytes.now) 545) × (result.sent ≡ length (frame_call a port (take n bytes.now) 545).line) }
-{
-    let end = least(bytes.len(), n);
-    calls::frame(a, port, &bytes[..end], reply)
-}
-
-// Does what a line asks for, with the bytes of the line; the reply is left in the buffer.
-#[tactic(auto, using(crate::proofs::DoingLaws::told_accepted))]
-pub fn do_form(a: Agent, form: Form, bytes: &[u8], reply: &mut [u8; 545]) -> Handled
-    ensures { (result.sent ≤ 545) × (told result reply.new ≡ done a (step_in form bytes.now)) × (result.sent ≡ length (done a (step_in form bytes.now)).line) }
+// Does what a line asks for, with the bytes of the line; what is sent is lent from the reply buffer. For ticks and inputs the answer
+// is 0.
+#[tactic(auto, using(std::proofs::lemmas::List::take_min))]
+pub fn do_form<'a>(
+    agent: &mut Agent,
+    form: Option<Form>,
+    bytes: &[u8],
+    reply: &'a mut [u8; 545],
+) -> Result<&'a [u8], Refusal>
+    ensures most { length (told result agent.new).line ≤ 545 }
+    ensures told { told result agent.new ≡ done agent.old (step_in form bytes.now) }
 {
     match form {
-        Form::Ticks(n) => accepted(ticks(a, n)),
-        Form::Frame(port, n) => frame(a, port, bytes, n, reply),
-        Form::Inputs => accepted(inputs(a, bytes)),
-        Form::Bad => accepted(a),
+        Some(Form::Ticks(n)) => {
+            ticks(agent, n);
+            Ok(&[])
+        }
+        Some(Form::Frame(port, n)) => {
+            let end = n.min(bytes.len());
+            frame(agent, port, &bytes[..end], reply)
+        }
+        Some(Form::Inputs) => {
+            inputs(agent, bytes);
+            Ok(&[])
+        }
+        None => Ok(&[]),
     }
 }

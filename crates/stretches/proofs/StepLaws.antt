@@ -3,8 +3,10 @@ use Rattle.std.proofs.Common.{◌≡◌, ℕ, ◌+◌, ◌-◌, ◌%◌, ◌^◌
 use borrow.Author.Tests.{lt-leb}
 use Rattle.base.proofs.Choosing.{choose_true, choose_false, by_test, and_true}
 use Rattle.stretches.specs.Stretches.{stretch, first_number}
-use Rattle.stretches.specs.Rolling.{sum_after, lines_after, judged, counted}
+use lib.ListN.{set}
+use Rattle.stretches.specs.Rolling.{kept, place, oldest, sum_after, lines_after, judged, counted, after}
 use Rattle.stretches.specs.declared.Tally.{Tally}
+use Rattle.stretches.specs.declared.Kept.{Kept}
 
 -- ---- the sum, where nothing wraps
 pub sum_after_is : (s c o : ℕ) → o ≤ s + c → s + c - o < 2 ^ 32 → o < 2 ^ 32 → sum_after s o c ≡ s + c - o
@@ -51,6 +53,10 @@ module _ (p : Tally) (lines sum : ℕ) where
 pub counted_is : (p : Tally) (o c lines sum : ℕ) (r : Tally) → lines ≡ (p.lines + 1) % 2 ^ 32 → sum ≡ sum_after p.sum o c → r ≡ judged p lines sum → r ≡ counted p o c
 unfolding counted lines_after
 counted_is p o c lines sum r e f g = g ∙ ap (λ (n : ℕ). judged p n sum) e ∙ ap (judged p ((p.lines + 1) % 2 ^ 32)) f
+
+pub after_is : (s : Kept) (c lines sum : ℕ) (p : Tally) → lines ≡ (s.tally.lines + 1) % 2 ^ 32 → sum ≡ sum_after s.tally.sum (oldest s.last s.tally) c
+    → p ≡ judged s.tally lines sum → kept (set s.last (place s.tally.lines) c) p ≡ after s c
+after_is s c lines sum p e f g = ap (kept (set s.last (place s.tally.lines) c)) (counted_is s.tally (oldest s.last s.tally) c lines sum p e f g)
 
 -- a step where nothing wraps
 pub counted_fits : (p : Tally) (o c s : ℕ) → p.lines + 1 < 2 ^ 32 → o + s ≡ p.sum + c → s < 2 ^ 32 → o < 2 ^ 32 → counted p o c ≡ judged p (p.lines + 1) s

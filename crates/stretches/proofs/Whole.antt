@@ -4,7 +4,8 @@ use lib.ListN.{length-replicate}
 use lib.Seq.{drop-nil}
 use Rattle.base.specs.Choice.{choose}
 use Rattle.stretches.specs.Stretches.{stretch, most_count, first_number, sum, sums, Worst, worst_of}
-use Rattle.stretches.specs.Rolling.{Kept, begun, place, oldest, after, after_all, worst_so_far, judged}
+use Rattle.stretches.specs.Rolling.{begun, place, oldest, after, after_all, worst_so_far, judged}
+use Rattle.stretches.specs.declared.Kept.{Kept}
 use Rattle.stretches.specs.declared.Tally.{Tally}
 use Rattle.stretches.proofs.SumLaws.{sum_append, sum_none, sum_one, sum_cons, sums_short, sums_front, sums_drop}
 use Rattle.stretches.proofs.LargestLaws.{worst, worst_after, after_none, after_one, after_all_lem}

@@ -3,12 +3,9 @@ use Rattle.std.specs.Prelude.{ℕ, ◌+◌, ◌-◌, ◌%◌, ◌^◌, ◌&&◌,
 use Rattle.base.specs.Choice.{choose}
 use Rattle.stretches.specs.Stretches.{stretch, first_number, Worst}
 use Rattle.stretches.specs.declared.Tally.{Tally}
+use Rattle.stretches.specs.declared.Kept.{Kept}
 
 -- the last 1,000 counts, that of line n at place (n − 1) modulo 1,000; what else is kept of the journey
-pub record Kept : Type 0 where
-  pub last : List ℕ
-  pub tally : Tally
-
 abbrev pub kept : List ℕ → Tally → Kept
 kept last p = record { last = last; tally = p }
 

@@ -1,10 +1,9 @@
 // Stuffing: 7Eh is sent as 7Dh 5Eh, 7Dh as 7Dh 5Dh.
 #![tactic(auto)]
 
-ghost use Rattle.std.specs.Prelude.{◌≡◌, true, ◌+◌, ◌<◌, ◌≤◌, length, replicate, set};
-ghost use Rattle.std.proofs.Math.Option.{none};
+ghost use Rattle.std.specs.Prelude.{◌≡◌, true, ◌+◌, ◌≤◌, length};
 ghost use Rattle.std.proofs.lemmas.List.Edits.{sets};
-ghost use Rattle.stuffing.specs.Stuffing.{stuff_byte, stuff, meaning_of, unstuff, unstuffed_in, plain_of};
+ghost use Rattle.stuffing.specs.Stuffing.{stuff_byte, stuff, meaning_of, meaning_escaped, unstuff, told, plain_in, Cleared};
 
 pub const FLAG: u8 = 0x7E;
 
@@ -16,52 +15,47 @@ pub const FLAG_SENT: u8 = 0x5E;
 pub const ESCAPE_SENT: u8 = 0x5D;
 
 // Stores one byte, stuffed, at index `at`; returns the next index.
-#[tactic(auto, using(crate::proofs::StuffingLaws::byte_flag, crate::proofs::StuffingLaws::byte_escape, crate::proofs::StuffingLaws::byte_other))]
+#[tactic(auto, unfolding(crate::specs::Stuffing::stuff_byte))]
 fn put(dst: &mut [u8], at: usize, b: u8) -> usize
     requires { at + length (stuff_byte b) ≤ length dst.old }
-    ensures { (result ≡ at + length (stuff_byte b)) × (dst.new ≡ sets dst.old at (stuff_byte b)) }
+    ensures next { result ≡ at + length (stuff_byte b) }
+    ensures stored { dst.new ≡ sets dst.old at (stuff_byte b) }
 {
-    if b == FLAG {
-        dst[at] = ESCAPE;
-        dst[at + 1] = FLAG_SENT;
-        return at + 2;
-    }
-    if b == ESCAPE {
-        dst[at] = ESCAPE;
-        dst[at + 1] = ESCAPE_SENT;
-        return at + 2;
-    }
-    dst[at] = b;
-    at + 1
+    let sent = match b {
+        FLAG => FLAG_SENT,
+        ESCAPE => ESCAPE_SENT,
+        _ => {
+            dst[at] = b;
+            return at + 1;
+        }
+    };
+    dst[at..at + 2].copy_from_slice(&[ESCAPE, sent]);
+    at + 2
 }
 
 // Stores the source, stuffed, starting at index `from`; returns the next index.
 #[tactic(auto, using(crate::proofs::StuffingLaws::stuff_end))]
 pub fn stuff_at(src: &[u8], dst: &mut [u8], from: usize) -> usize
     requires { from + length (stuff src.now) ≤ length dst.old }
-    ensures { (result ≡ from + length (stuff src.now)) × (dst.new ≡ sets dst.old from (stuff src.now)) }
+    ensures next { result ≡ from + length (stuff src.now) }
+    ensures stored { dst.new ≡ sets dst.old from (stuff src.now) }
 {
     let mut at = from;
-    let mut i: usize = 0;
-    while i < src.len() {
-        at = put(dst, at, src[i]);
-        i += 1;
+    for &b in src {
+        at = put(dst, at, b);
     }
     at
 }
 
 // How many bytes one byte becomes when it is stuffed.
-#[tactic(auto, using(crate::proofs::StuffingLaws::byte_flag, crate::proofs::StuffingLaws::byte_escape, crate::proofs::StuffingLaws::byte_other))]
+#[tactic(auto, unfolding(crate::specs::Stuffing::stuff_byte))]
 fn width(b: u8) -> usize
     ensures { result ≡ length (stuff_byte b) }
 {
-    if b == FLAG {
-        return 2;
+    match b {
+        FLAG | ESCAPE => 2,
+        _ => 1,
     }
-    if b == ESCAPE {
-        return 2;
-    }
-    1
 }
 
 // The same for a slice.
@@ -70,118 +64,56 @@ pub fn stuffed_len(src: &[u8]) -> usize
     requires { length src.now ≤ 65535 }
     ensures { result ≡ length (stuff src.now) }
 {
-    let mut n: usize = 0;
-    let mut i: usize = 0;
-    while i < src.len() {
-        n += width(src[i]);
-        i += 1;
+    let mut n = 0;
+    for &b in src {
+        n += width(b);
     }
     n
 }
 
-// What a received byte means, after an escape or not.
-#[derive(Clone, Copy)]
-pub enum Meaning {
-    Plain(u8),
-    Escape,
-    Wrong,
-}
-
+// What stood in place of an escape and the byte after it, if they are right.
 #[tactic(auto, unfolding(crate::specs::Stuffing::meaning_of))]
-fn meaning_of(escaped: bool, b: u8) -> Meaning
-    ensures { result ≡ meaning_of escaped b }
+fn unescaped(b: u8) -> Option<u8>
+    ensures { meaning_escaped result ≡ meaning_of true b }
 {
-    if escaped {
-        if b == FLAG_SENT {
-            return Meaning::Plain(FLAG);
-        }
-        if b == ESCAPE_SENT {
-            return Meaning::Plain(ESCAPE);
-        }
-        return Meaning::Wrong;
-    }
-    if b == FLAG {
-        return Meaning::Wrong;
-    }
-    if b == ESCAPE {
-        return Meaning::Escape;
-    }
-    Meaning::Plain(b)
-}
-
-// What unstuffing tells of the received bytes: whether they are right, and how many there are without their escapes.
-#[derive(Clone, Copy)]
-pub struct Count {
-    pub right: bool,
-    pub len: usize,
-}
-
-// An array for unstuffed bytes, with none in it yet.
-pub fn no_bytes() -> [u8; 272]
-    ensures { result ≡ replicate 272 0 }
-{
-    [0; 272]
-}
-
-// Nothing, because a byte is wrong.
-fn wrong(bytes: &mut [u8; 272]) -> Count
-    ensures { unstuffed_in result bytes.new ≡ plain_of none }
-{
-    *bytes = no_bytes();
-    Count {
-        right: false,
-        len: 0,
+    match b {
+        FLAG_SENT => Some(FLAG),
+        ESCAPE_SENT => Some(ESCAPE),
+        _ => None,
     }
 }
 
-// Stores a byte; past the array's end nothing. Where the place is known to fit it is not tested.
-fn store(bytes: &mut [u8; 272], fits: bool, at: usize, b: u8)
-    requires { (length bytes.old ≡ 272) × (fits ≡ true → at < 272) }
-    ensures { bytes.new ≡ set bytes.old at b }
+// The received bytes without their escapes, into an array that the caller lends: the first 272 of them. Returns how many there
+// are, or nothing if a byte is wrong: the array then holds those before it.
+#[tactic(auto, unfolding(crate::specs::Stuffing::unstuff, crate::specs::Stuffing::unstuff_from, crate::specs::Stuffing::meaning_of))]
+fn plain_into(src: &[u8], bytes: &mut [u8; 272]) -> Option<usize>
+    ensures { told result bytes.new ≡ plain_in bytes.old (unstuff src.now) }
 {
-    if fits {
-        bytes[at] = b;
-        return;
-    }
-    if at < 272 {
-        bytes[at] = b;
-    }
-}
-
-// The received bytes without their escapes, into an array that the caller lends: the first 272 of them. A source of at most 272
-// bytes fits, so the compiler gives it a loop of its own.
-#[tactic(auto, using(crate::proofs::StuffingLaws::extend_start, crate::proofs::StuffingLaws::extend_end, crate::proofs::StuffingLaws::unstuff_end, crate::proofs::StuffingLaws::turn_wrong), unfolding(crate::specs::Stuffing::unstuff))]
-pub fn unstuff_into(s: &[u8], bytes: &mut [u8; 272]) -> Count
-    requires { bytes.old ≡ replicate 272 0 }
-    ensures { unstuffed_in result bytes.new ≡ plain_of (unstuff s.now) }
-{
-    let mut len: usize = 0;
-    let mut i: usize = 0;
-    while i < s.len() {
-        match meaning_of(false, s[i]) {
-            Meaning::Plain(b) => {
-                store(bytes, s.len() <= 272, len, b);
-            }
-            Meaning::Escape => {
-                i += 1;
-                if s.len() <= i {
-                    return wrong(bytes);
-                }
-                match meaning_of(true, s[i]) {
-                    Meaning::Plain(b) => {
-                        store(bytes, s.len() <= 272, len, b);
-                    }
-                    _ => {
-                        return wrong(bytes);
-                    }
-                }
-            }
-            Meaning::Wrong => {
-                return wrong(bytes);
-            }
+    let mut len = 0;
+    let mut left = src.iter();
+    while let Some(&b) = left.next() {
+        let plain = match b {
+            FLAG => return None,
+            ESCAPE => unescaped(*left.next()?)?,
+            _ => b,
+        };
+        // a source no longer than the array fits: the compiler gives it a loop of its own
+        if src.len() <= bytes.len() || len < bytes.len() {
+            bytes[len] = plain;
         }
         len += 1;
-        i += 1;
     }
-    Count { right: true, len }
+    Some(len)
+}
+
+// The same; the array is cleared if a byte is wrong.
+pub fn unstuff_into(src: &[u8], bytes: &mut [u8; 272]) -> Option<usize>
+    ensures plain { told result bytes.new ≡ plain_in bytes.old (unstuff src.now) }
+    ensures cleared { Cleared result bytes.new }
+{
+    let len = plain_into(src, bytes);
+    if len.is_none() {
+        *bytes = [0; 272];
+    }
+    len
 }

@@ -1,35 +1,34 @@
 -- Laws of decimal numbers: a turn of each loop, and the answers of a reading. Assumes nothing.
 use mathlib.Core.Path.{◌≡◌, refl, sym, ap, ◌∙◌}
 use mathlib.Core.List.{List, [], ◌∷◌, ◌++◌, append_assoc}
-use mathlib.Core.Option.{none}
+use Rattle.std.specs.Prelude.{None, Some}
 use Prim.Native.Nat.{ℕ, zero, suc, ◌+◌, ◌-◌, ◌*◌, ◌/◌, ◌%◌, ◌^◌, ◌≤◌, ◌<◌}
 use native.Mathlib.Omega.{arith}
 use native.Mathlib.Nat.{pow-suc}
 use native.Mathlib.Numerals.{add-one}
 use borrow.Author.Tests.{eq-eqb, ne_eqb, lt-ltb, le-ltb}
 use lib.Dec.{eqb, ltb}
-use lib.ListN.{length, drop, get_or, set, length-append, length-set, drop_of_length-le}
+use lib.ListN.{length, drop, get_or, set, length-append, length-set}
 use lib.Seq.{drop-cons, drop-set-lt, get_or-set_same}
 use Rattle.base.proofs.Choosing.{by_test}
 use Rattle.text.specs.Hex.{digit_value}
 use Rattle.text.specs.Decimal.{digits_from, up_to, decimal_of, digits, decimal_text}
-use Rattle.text.specs.declared.decimal.Decimal.TheVariants.{Number, NotNumber}
 
 -- ---- reading
 -- a number past the limit stays past it
-pub past_limit : (limit n : ℕ) (cs : List ℕ) → limit < n → up_to limit (digits_from n cs) ≡ NotNumber
+pub past_limit : (limit n : ℕ) (cs : List ℕ) → limit < n → up_to limit (digits_from n cs) ≡ None
 unfolding digits_from
 past_limit limit n [] h = simp (lt-ltb _ _ h)
 past_limit limit n (c ∷ cs) h =
-    by_test (λ o. up_to limit o ≡ NotNumber) (ltb 9 (digit_value c)) (λ e. refl) (λ e. past_limit limit (n * 10 + digit_value c) cs (omega arith))
+    by_test (λ o. up_to limit o ≡ None) (ltb 9 (digit_value c)) (λ e. refl) (λ e. past_limit limit (n * 10 + digit_value c) cs (omega arith))
 
-pub within_limit : (limit n : ℕ) → n ≤ limit → Number n ≡ up_to limit (digits_from n [])
+pub within_limit : (limit n : ℕ) → n ≤ limit → Some n ≡ up_to limit (digits_from n [])
 unfolding digits_from
 within_limit limit n h = simp (le-ltb _ _ h)
 
 -- the rest of a line, a character fewer
 module _ (s : List ℕ) (i d : ℕ) (h : i < length s) (q : d ≡ digit_value (get_or s i 0)) where
-  pub digit_other : (n : ℕ) → 9 < d → digits_from n (drop i s) ≡ none
+  pub digit_other : (n : ℕ) → 9 < d → digits_from n (drop i s) ≡ None
   unfolding digits_from
   digit_other n k = rw (drop-cons s i 0 h) (simp (← q, lt-ltb _ _ k))
 
@@ -38,18 +37,20 @@ module _ (s : List ℕ) (i d : ℕ) (h : i < length s) (q : d ≡ digit_value (g
   digit_more n k = rw (drop-cons s i 0 h, add-one) (simp (← q, le-ltb _ _ k))
 
 -- the first character
-pub first_none : (limit i : ℕ) (s : List ℕ) → length s ≤ i → NotNumber ≡ decimal_of limit (drop i s)
+pub first_none : (limit : ℕ) (s : List ℕ) → length s ≡ 0 → None ≡ decimal_of limit s
 unfolding decimal_of
-first_none limit i s h = rw drop_of_length-le
+first_none limit [] h = refl
+first_none limit (c ∷ cs) h = absurd (omega arith)
 
-pub first_zero : (limit i : ℕ) (s : List ℕ) → i < length s → get_or s i 0 ≡ 0x30 → NotNumber ≡ decimal_of limit (drop i s)
+pub first_zero : (limit : ℕ) (s : List ℕ) → get_or s 0 0 ≡ 0x30 → None ≡ decimal_of limit s
 unfolding decimal_of
-first_zero limit i s h k = rw (drop-cons s i 0 h) (simp (eq-eqb _ _ k))
+first_zero limit [] h = refl
+first_zero limit (c ∷ cs) h = simp (eq-eqb c 0x30 h)
 
-pub first_other : (limit i : ℕ) (s : List ℕ) → i < length s → (get_or s i 0 ≡ 0x30 → ⊥)
-    → up_to limit (digits_from 0 (drop i s)) ≡ decimal_of limit (drop i s)
+pub first_other : (limit : ℕ) (s : List ℕ) → 0 < length s → (get_or s 0 0 ≡ 0x30 → ⊥) → up_to limit (digits_from 0 s) ≡ decimal_of limit s
 unfolding decimal_of
-first_other limit i s h k = rw (drop-cons s i 0 h) (simp (ne_eqb _ _ k))
+first_other limit [] h k = absurd (omega arith)
+first_other limit (c ∷ cs) h k = simp (ne_eqb c 0x30 k)
 
 -- ---- putting: the digits that are left, before those that stand, are the whole
 pub digits_none : (k : ℕ) → digits k 0 ≡ []

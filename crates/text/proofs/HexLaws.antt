@@ -1,173 +1,126 @@
--- Laws of hex digits: the cases of a digit and of a pair, a turn of each loop, and the answers of a reading.
+-- Laws of hex digits: the cases of a digit and of a pair, a turn of the loop, and the answers of a reading.
 -- Assumes nothing.
 use mathlib.Core.Path.{◌≡◌, refl, sym, ap, ◌∙◌}
 use mathlib.Core.Bool.{Bool, true, false}
 use mathlib.Core.List.{List, [], ◌∷◌}
-use mathlib.Core.Option.{Option, none, some}
+use Rattle.std.specs.Prelude.{Option, Some, None, Result, Ok, Err}
+use Rattle.std.specs.Char as Char
 use Prim.Native.Nat.{ℕ, suc, ◌+◌, ◌*◌, ◌≤◌, ◌<◌}
 use native.Mathlib.Omega.{arith}
 use native.Mathlib.Nat.{add-zero, add-suc, suc-add}
-use native.Mathlib.Numerals.{add-one, add-two}
-use borrow.Author.Tests.{lt-ltb, le-ltb, ltb-true, ltb-false}
+use native.Mathlib.Numerals.{add-one}
+use borrow.Author.Tests.{lt-ltb, le-ltb, ltb-false}
 use lib.Dec.{T, eqb, ltb, eqb→eq}
-use lib.ListN.{length, drop, get_or, set, drop_of_length-le}
-use lib.Seq.{sets, drop-cons}
+use lib.ListN.{length, set}
+use lib.Seq.{sets}
 use Rattle.base.proofs.Interval.{all_from, at}
 use Rattle.base.proofs.Sets.{sets_front}
-use Rattle.text.specs.Hex.{digit_value, pair_of, pair_at, paired, hex_pairs, hex_of, hex_left, count_of, stored, filled}
-use Rattle.text.specs.declared.hex.Pair.{Pair}
-use Rattle.text.specs.declared.hex.Pair.TheVariants.{Byte, Other}
-use Rattle.text.specs.declared.hex.Hex.{Hex}
-use Rattle.text.specs.declared.hex.Hex.TheVariants.{Bytes, NotHex, NoRoom}
+use Rattle.base.specs.Choice.{choose}
+use Rattle.base.proofs.Choosing.{absurdly}
+use Rattle.text.specs.Hex.{digit_value, pair_of, paired, hex_pairs, hex_of, hex_left, stored, told}
+use Rattle.text.specs.declared.hex.HexFault.{HexFault}
+use Rattle.text.specs.declared.hex.HexFault.TheVariants.{NotHex, NoRoom}
 
 -- two functions that antt computes to be the same over an interval
 pub agree : (f g : ℕ → ℕ) (lo n : ℕ) → T (all_from (λ x. eqb (f x) (g x)) lo n) → (a : ℕ) → lo ≤ a → a < lo + n → f a ≡ g a
 agree f g lo n t a p q = eqb→eq (f a) (g a) (at (λ x. eqb (f x) (g x)) lo n t a p q)
 
--- ---- a pair
-module _ (a b high low : ℕ) (h : high ≡ digit_value a) (l : low ≡ digit_value b) where
-  pub pair_high : 15 < high → Other ≡ pair_of a b
-  unfolding pair_of
-  pair_high k = simp (← h, lt-ltb _ _ k)
+-- ---- a digit, as the library tells it: antt computes that it is ours, for each byte
+same_digit : (c : ℕ) → c < 256 → choose (ltb 15 (Char.digit_value c)) 16 (Char.digit_value c) ≡ digit_value c
+unfolding digit_value
+same_digit c h = agree (λ x. choose (ltb 15 (Char.digit_value x)) 16 (Char.digit_value x)) digit_value 0 256 tt c (omega arith) (omega arith)
 
-  pub pair_low : high ≤ 15 → 15 < low → Other ≡ pair_of a b
-  unfolding pair_of
-  pair_low k m = simp (← h, ← l, le-ltb _ _ k, lt-ltb _ _ m)
+pub digit_same : (c v : ℕ) → c < 256 → v < 16 → v ≡ Char.digit_value c → v ≡ digit_value c
+digit_same c v h k q = q ∙ (rw (le-ltb 15 (Char.digit_value c) (omega arith)) at (same_digit c h))
 
-  pub pair_both : high ≤ 15 → low ≤ 15 → Byte (high * 16 + low) ≡ pair_of a b
-  unfolding pair_of
-  pair_both k m = simp (← h, ← l, le-ltb _ _ k, le-ltb _ _ m)
-
-module _ (s : List ℕ) (i : ℕ) where
-  pub at_end_lem : length s ≤ i + 1 → Other ≡ pair_at s i
-  unfolding pair_at
-  at_end_lem h = simp (le-ltb _ _ h)
-
-  pub at_pair : i + 1 < length s → pair_of (get_or s i 0) (get_or s (i + 1) 0) ≡ pair_at s i
-  unfolding pair_at
-  at_pair h = simp (lt-ltb _ _ h)
-
--- ---- the rest of a text, a pair fewer
-pub pairs_turn : (s : List ℕ) (i : ℕ) → i < length s → hex_pairs (drop i s) ≡ paired (pair_at s i) (hex_pairs (drop (i + 2) s))
-unfolding hex_pairs
-pairs_turn s i h = by (ltb (i + 1) (length s)) refl
+pub digit_past : (base c : ℕ) → c < 256 → base ≤ 16 → (Char.digit_value c < base → ⊥) → digit_value c < base → ⊥
+digit_past base c h m n k = by (ltb 15 (Char.digit_value c)) refl
   where
-    by : (t : Bool) → ltb (i + 1) (length s) ≡ t → hex_pairs (drop i s) ≡ paired (pair_at s i) (hex_pairs (drop (i + 2) s))
-    by true e =
-        let k : i + 1 < length s = ltb-true _ _ e in
-        ap hex_pairs (drop-cons s i 0 h ∙ ap (λ (n : ℕ). get_or s i 0 ∷ drop n s) (sym (add-one i)))
-        ∙ ap (λ (l : List ℕ). hex_pairs (get_or s i 0 ∷ l)) (drop-cons s (i + 1) 0 k)
-        ∙ ap (λ (n : ℕ). paired (pair_of (get_or s i 0) (get_or s (i + 1) 0)) (hex_pairs (drop n s))) (ap suc (add-one i) ∙ sym (add-two i))
-        ∙ ap (λ (p : Pair). paired p (hex_pairs (drop (i + 2) s))) (at_pair s i k)
-    by false e =
-        let k : length s ≤ i + 1 = ltb-false _ _ e in
-        ap hex_pairs (drop-cons s i 0 h ∙ ap (λ (n : ℕ). get_or s i 0 ∷ drop n s) (sym (add-one i)))
-        ∙ ap (λ (l : List ℕ). hex_pairs (get_or s i 0 ∷ l)) (drop_of_length-le s k)
-        ∙ ap (λ (p : Pair). paired p (hex_pairs (drop (i + 2) s))) (at_end_lem s i k)
+    by : (t : Bool) → ltb 15 (Char.digit_value c) ≡ t → ⊥
+    by true t = let e : 16 ≡ digit_value c = rw t at (same_digit c h) in omega arith
+    by false t = let e : Char.digit_value c ≡ digit_value c = rw t at (same_digit c h) in n (omega arith)
 
-pub pairs_end : (s : List ℕ) (i : ℕ) → length s ≤ i → hex_pairs (drop i s) ≡ some []
+-- ---- a pair
+pub pair_high : (a b : ℕ) → (digit_value a < 16 → ⊥) → None ≡ pair_of a b
+unfolding pair_of
+pair_high a b n = rw (lt-ltb 15 (digit_value a) (omega arith))
+
+pub pair_low : (a b : ℕ) → digit_value a < 16 → (digit_value b < 16 → ⊥) → None ≡ pair_of a b
+unfolding pair_of
+pair_low a b h n = rw (le-ltb 15 (digit_value a) (omega arith), lt-ltb 15 (digit_value b) (omega arith))
+
+pub pair_both : (a b : ℕ) → digit_value a < 16 → digit_value b < 16 → Some (digit_value a * 16 + digit_value b) ≡ pair_of a b
+unfolding pair_of
+pair_both a b h k = rw (le-ltb 15 (digit_value a) (omega arith), le-ltb 15 (digit_value b) (omega arith))
+
+-- ---- what a loop stored, before what the rest gives
+pub stored_more : (out : List ℕ) (n b : ℕ) (o : Option (List ℕ)) → stored out n (paired (Some b) o) ≡ stored (set out n b) (n + 1) o
+stored_more out n b None = refl
+stored_more out n b (Some bs) = rw (add-one, suc-add, add-suc)
+
+pub stored_end : (out : List ℕ) (n : ℕ) → Some (n, out) ≡ stored out n (Some [])
+stored_end out n = rw add-zero
+
+-- a turn of the loop: a pair was read, and its byte stored if there is room
+pub stored_turn : (a b v n : ℕ) (cs out out' : List ℕ) → Some v ≡ pair_of a b → out' ≡ set out n v
+    → stored out' (n + 1) (hex_pairs cs) ≡ stored out n (hex_pairs (a ∷ b ∷ cs))
 unfolding hex_pairs
-pairs_end s i h = rw drop_of_length-le
+stored_turn a b v n cs out out' p q =
+    ap (λ (l : List ℕ). stored l (n + 1) (hex_pairs cs)) q ∙ sym (stored_more out n v (hex_pairs cs))
+    ∙ ap (λ (o : Option ℕ). stored out n (paired o (hex_pairs cs))) p
 
-count_more : (n b : ℕ) (o : Option (List ℕ)) → count_of n (paired (Byte b) o) ≡ count_of (n + 1) o
-count_more n b none = refl
-count_more n b (some bs) = rw (add-one, suc-add, add-suc)
-
-pub count_end : (n : ℕ) → Bytes n ≡ count_of n (some [])
-count_end n = rw add-zero
-
-stored_more : (out : List ℕ) (n b : ℕ) (o : Option (List ℕ)) → stored out n (paired (Byte b) o) ≡ stored (set out n b) (n + 1) o
-stored_more out n b none = refl
-stored_more out n b (some bs) = rw add-one
-
-module _ (s : List ℕ) (i : ℕ) (h : i < length s) where
-  module _ (n : ℕ) (z : Hex) (inv : count_of n (hex_pairs (drop i s)) ≡ z) where
-    by_pair : (p : Pair) → pair_at s i ≡ p → count_of n (paired p (hex_pairs (drop (i + 2) s))) ≡ z
-    by_pair p q =
-        ap (λ (x : Pair). count_of n (paired x (hex_pairs (drop (i + 2) s)))) (sym q) ∙ ap (count_of n) (sym (pairs_turn s i h)) ∙ inv
-
-    pub count_byte : (b : ℕ) → pair_at s i ≡ Byte b → count_of (n + 1) (hex_pairs (drop (i + 2) s)) ≡ z
-    count_byte b q = sym (count_more n b (hex_pairs (drop (i + 2) s))) ∙ by_pair (Byte b) q
-
-    pub count_other : pair_at s i ≡ Other → NotHex ≡ z
-    count_other q = by_pair Other q
-
-  module _ (out : List ℕ) (n : ℕ) (z : Option (List ℕ)) (inv : stored out n (hex_pairs (drop i s)) ≡ z) where
-    storing : (p : Pair) → pair_at s i ≡ p → stored out n (paired p (hex_pairs (drop (i + 2) s))) ≡ z
-    storing p q =
-        ap (λ (x : Pair). stored out n (paired x (hex_pairs (drop (i + 2) s)))) (sym q) ∙ ap (stored out n) (sym (pairs_turn s i h)) ∙ inv
-
-    pub store_byte : (b : ℕ) → pair_at s i ≡ Byte b → stored (set out n b) (n + 1) (hex_pairs (drop (i + 2) s)) ≡ z
-    store_byte b q = sym (stored_more out n b (hex_pairs (drop (i + 2) s))) ∙ storing (Byte b) q
-
-    pub store_other : pair_at s i ≡ Other → none ≡ z
-    store_other q = storing Other q
-
--- ---- the answers, by what counting gave
-abbrev Answered : Option (List ℕ) → List ℕ → Hex → List ℕ → Type 0
+-- ---- the answers, by what a first reading into no room counted
+abbrev Answered : Option (List ℕ) → List ℕ → Result ℕ HexFault → List ℕ → Type 0
 Answered o buf r out = (r ≡ hex_of (length buf) o) × (out ≡ hex_left o buf)
 
-never : {P : Type 0} (x y : Hex) → x ≡ y → (x ≡ y → ◌≡◌ {A = ℕ} 0 1) → P
-never x y e f = absurd (let z : ◌≡◌ {A = ℕ} 0 1 = f e in omega arith)
+pub read_not : (o : Option (List ℕ)) (buf : List ℕ) → None ≡ stored [] 0 o → Answered o buf (Err NotHex) buf
+read_not None buf e = (refl, refl)
+read_not (Some bs) buf e = absurdly (cc)
 
-pub read_not : (o : Option (List ℕ)) (buf : List ℕ) → NotHex ≡ count_of 0 o → Answered o buf NotHex buf
-read_not none buf e = (refl, refl)
-read_not (some bs) buf e = never _ _ e (λ d. cc)
+counts : (buf out : List ℕ) (n m : ℕ) (bs : List ℕ) → Some (n, out) ≡ stored buf m (Some bs) → (n ≡ m + length bs) × (out ≡ sets buf m bs)
+counts buf out n m bs e =
+    let w : ◌≡◌ {A = ℕ × List ℕ} (n, out) (m + length bs, sets buf m bs) = cc in
+    (ap (λ (x : ℕ × List ℕ). x.0) w, ap (λ (x : ℕ × List ℕ). x.1) w)
 
-pub read_never : (o : Option (List ℕ)) (buf : List ℕ) → NoRoom ≡ count_of 0 o → Answered o buf NoRoom buf
-read_never none buf e = never _ _ e (λ d. cc)
-read_never (some bs) buf e = never _ _ e (λ d. cc)
+module _ (buf : List ℕ) (n : ℕ) (l : List ℕ) where
+  pub read_long : (o : Option (List ℕ)) → Some (n, l) ≡ stored [] 0 o → length buf < n → Answered o buf (Err NoRoom) buf
+  read_long None e h = absurdly (cc)
+  read_long (Some bs) e h =
+      let k : ltb (length buf) (length bs) ≡ true = lt-ltb _ _ (omega (arith, (counts [] l n 0 bs e).0)) in
+      (rw k, rw k)
 
-counts : (n m : ℕ) → Bytes n ≡ Bytes (0 + m) → n ≡ m
-counts n m e = let q : n ≡ 0 + m = cc in omega arith
-
-pub read_long : (o : Option (List ℕ)) (buf : List ℕ) (n : ℕ) → Bytes n ≡ count_of 0 o → length buf < n → Answered o buf NoRoom buf
-read_long none buf n e h = never _ _ e (λ d. cc)
-read_long (some bs) buf n e h =
-    let k : ltb (length buf) (length bs) ≡ true = lt-ltb _ _ (rw (counts n (length bs) e) at h) in
-    (rw k, rw k)
-
-pub read_bytes_lem : (o : Option (List ℕ)) (buf out : List ℕ) (n : ℕ) (r : Bool) → Bytes n ≡ count_of 0 o → n ≤ length buf
-    → filled r out ≡ stored buf 0 o → Answered o buf (Bytes n) out
-read_bytes_lem none buf out n r e h f = never _ _ e (λ d. cc)
-read_bytes_lem (some bs) buf out n r e h f = by r f
-  where
-    q : n ≡ length bs
-    q = counts n (length bs) e
-
-    fits : length bs ≤ length buf
-    fits = rw q at h
-
-    by : (r : Bool) → filled r out ≡ stored buf 0 (some bs) → Answered (some bs) buf (Bytes n) out
-    by true g =
-        let k : ltb (length buf) (length bs) ≡ false = le-ltb _ _ fits in
-        let same : out ≡ sets buf 0 bs = cc in
-        (rw k (ap Bytes q), rw k (same ∙ sets_front buf bs fits))
-    by false g = absurd (let z : ◌≡◌ {A = ℕ} 0 1 = cc in omega arith)
+  pub read_all : (o : Option (List ℕ)) (r : Option ℕ) (out : List ℕ) → Some (n, l) ≡ stored [] 0 o → n ≤ length buf → told r out ≡ stored buf 0 o
+      → Answered o buf (Ok n) out
+  read_all None r out e h f = absurdly (cc)
+  read_all (Some bs) None out e h f = absurdly (cc)
+  read_all (Some bs) (Some m) out e h f =
+      let q : n ≡ length bs = omega (arith, (counts [] l n 0 bs e).0) in
+      let k : ltb (length buf) (length bs) ≡ false = le-ltb _ _ (omega arith) in
+      (rw k (ap Ok q), rw k ((counts buf out m 0 bs f).1 ∙ sets_front buf bs (omega arith)))
 
 -- ---- what a caller wants: the bytes that were read are within the room
-pub read_within : (m n : ℕ) (o : Option (List ℕ)) → Bytes n ≡ hex_of m o → n ≤ m
-read_within m n none e = never _ _ e (λ d. cc)
-read_within m n (some bs) e = by (ltb m (length bs)) refl
+pub read_within : (m n : ℕ) (o : Option (List ℕ)) → Ok n ≡ hex_of m o → n ≤ m
+read_within m n None e = absurdly (cc)
+read_within m n (Some bs) e = by (ltb m (length bs)) refl
   where
     by : (t : Bool) → ltb m (length bs) ≡ t → n ≤ m
-    by true k = never _ _ (rw k at e) (λ d. cc)
+    by true k = let f : Ok n ≡ Err NoRoom = rw k at e in absurdly (cc)
     by false k =
-        let f : Bytes n ≡ Bytes (length bs) = rw k at e in
+        let f : Ok n ≡ Ok (length bs) = rw k at e in
         let q : n ≡ length bs = cc in
         omega (arith, ltb-false m (length bs) k)
 
 -- two characters a byte
-pub pairs_length : (s bs : List ℕ) → hex_pairs s ≡ some bs → length s ≡ length bs * 2
+pub pairs_length : (s bs : List ℕ) → hex_pairs s ≡ Some bs → length s ≡ length bs * 2
 unfolding hex_pairs
 pairs_length [] bs e = let q : bs ≡ [] = cc in rw q
-pairs_length (a ∷ []) bs e = absurd (let z : ◌≡◌ {A = ℕ} 0 1 = cc in omega arith)
+pairs_length (a ∷ []) bs e = absurdly (cc)
 pairs_length (a ∷ b ∷ s) bs e = by (λ o d. pairs_length s o d) (pair_of a b) (hex_pairs s) refl e
   where
-    by : ((o : List ℕ) → hex_pairs s ≡ some o → length s ≡ length o * 2) → (p : Pair) (o : Option (List ℕ)) → hex_pairs s ≡ o
-        → paired p o ≡ some bs → suc (suc (length s)) ≡ length bs * 2
-    by r (Byte x) none d f = absurd (let z : ◌≡◌ {A = ℕ} 0 1 = cc in omega arith)
-    by r (Byte x) (some o) d f =
+    by : ((o : List ℕ) → hex_pairs s ≡ Some o → length s ≡ length o * 2) → (p : Option ℕ) (o : Option (List ℕ)) → hex_pairs s ≡ o
+        → paired p o ≡ Some bs → suc (suc (length s)) ≡ length bs * 2
+    by r (Some x) None d f = absurdly (cc)
+    by r (Some x) (Some o) d f =
         let q : bs ≡ x ∷ o = cc in
         omega (arith, r o d, ap length q)
-    by r Other o d f = absurd (let z : ◌≡◌ {A = ℕ} 0 1 = cc in omega arith)
+    by r None o d f = absurdly (cc)

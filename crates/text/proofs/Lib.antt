@@ -6,3 +6,4 @@ pub mod DecimalBothWays
 pub mod LineLaws
 pub mod PuttingLaws
 pub mod BadLineLaws
+pub mod TextLaws

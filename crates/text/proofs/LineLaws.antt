@@ -1,55 +1,22 @@
--- Laws of lines: counts, where a line ends, and the loop that cuts one off. Assumes nothing.
+-- Laws of lines: the characters before the first LF and behind it, where it is, and characters added to a line. Assumes nothing.
 use mathlib.Core.Path.{◌≡◌, refl, sym, ap, ap₂, ◌∙◌}
 use mathlib.Core.Bool.{Bool, true, false}
-use mathlib.Core.List.{List, [], ◌∷◌}
-use Prim.Native.Nat.{ℕ, ◌+◌, ◌≤◌, ◌<◌}
+use mathlib.Core.List.{List, [], ◌∷◌, ◌++◌}
+use Prim.Native.Nat.{ℕ, ◌+◌, ◌-◌, ◌≤◌}
 use native.Mathlib.Omega.{arith}
-use native.Mathlib.Nat.{add-zero}
-use native.Mathlib.Numerals.{add-one}
-use borrow.Author.Tests.{eq-eqb, ne_eqb, lt-ltb, le-ltb, ltb-true, ltb-false}
-use lib.Dec.{ltb}
-use lib.ListN.{length, drop, get_or, set, length-set, drop_of_length-le}
-use lib.Seq.{sets, drop-cons}
-use Rattle.base.proofs.StoresPast.{sets_past}
-use Rattle.text.specs.Lines.{before_end, told_count, line_end_of}
-use Rattle.text.specs.declared.lines.LineEnd.TheVariants.{Line, More}
+use borrow.Author.Tests.{eq-eqb, ne_eqb, eqb-true, eqb-false, lt-ltb, le-ltb}
+use borrow.Rule.Slice.PartMut.{put_mid}
+use lib.Dec.{eqb}
+use lib.ListN.{length, take, drop, length-append}
+use Rattle.std.proofs.Math.Seq.{take-append-add, drop-append-add}
+use Rattle.std.proofs.lemmas.List.{length-take-le, take_at, take_min}
+use Rattle.std.proofs.lemmas.Slice.{take-put_mid}
+use Rattle.std.specs.List.{position, position_or_len}
+use Rattle.std.specs.Prelude.{None, Some, min}
+use Rattle.base.proofs.Choosing.{choose_true, choose_false, never}
+use Rattle.text.specs.Lines.{is_end, before_end, has_end, after_end}
 
--- ---- counts
-pub told_past : (room n : ℕ) → room < n → room + 1 ≡ told_count room n
-unfolding told_count
-told_past room n h = simp (lt-ltb _ _ h)
-
-pub told_within : (room n : ℕ) → n ≤ room → n ≡ told_count room n
-unfolding told_count
-told_within room n h = simp (le-ltb _ _ h)
-
--- what holds on both sides of the room holds of the count
-told_cases : (P : ℕ → Type 0) (room n : ℕ) → (room < n → P (room + 1)) → (n ≤ room → P n) → P (told_count room n)
-told_cases P room n past within = by (ltb room n) refl
-  where
-    by : (t : Bool) → ltb room n ≡ t → P (told_count room n)
-    by true e = rw (← told_past room n (ltb-true _ _ e)) (past (ltb-true _ _ e))
-    by false e = rw (← told_within room n (ltb-false _ _ e)) (within (ltb-false _ _ e))
-
-told_most : (room n : ℕ) → told_count room n ≤ room + 1
-told_most room n = told_cases (λ k. k ≤ room + 1) room n (λ h. omega arith) (λ h. omega arith)
-
--- a count that passed the room stays there
-told_already : (room n : ℕ) → n ≤ room + 1 → n ≡ told_count room n
-told_already room n h = told_cases (λ k. n ≡ k) room n (λ p. omega arith) (λ p. refl)
-
-pub told_more : (room n k : ℕ) → told_count room (told_count room n + k) ≡ told_count room (n + k)
-told_more room n k =
-    told_cases (λ m. told_count room (m + k) ≡ told_count room (n + k)) room n
-    (λ h. sym (told_past room (room + 1 + k) (omega arith)) ∙ told_past room (n + k) (omega arith)) (λ h. refl)
-
--- and nothing is stored behind it
-pub told_sets : (l vs : List ℕ) (n : ℕ) → sets l (told_count (length l) n) vs ≡ sets l n vs
-told_sets l vs n =
-    told_cases (λ m. sets l m vs ≡ sets l n vs) (length l) n
-    (λ h. sets_past l (length l + 1) vs (omega arith) ∙ sym (sets_past l n vs (omega arith))) (λ h. refl)
-
--- ---- where a line ends
+-- ---- one byte more
 pub end_other : (c : ℕ) (cs : List ℕ) → (c ≡ 0x0A → ⊥) → before_end (c ∷ cs) ≡ c ∷ before_end cs
 unfolding before_end
 end_other c cs n = simp (ne_eqb _ _ n)
@@ -58,67 +25,105 @@ pub end_lf : (c : ℕ) (cs : List ℕ) → c ≡ 0x0A → before_end (c ∷ cs) 
 unfolding before_end
 end_lf c cs e = simp (eq-eqb _ _ e)
 
-rest_turn : (s : List ℕ) (i : ℕ) → i < length s → (get_or s i 0 ≡ 0x0A → ⊥) → before_end (drop i s) ≡ get_or s i 0 ∷ before_end (drop (i + 1) s)
-rest_turn s i h k = ap before_end (drop-cons s i 0 h ∙ ap (λ (m : ℕ). get_or s i 0 ∷ drop m s) (sym (add-one i))) ∙ end_other _ _ k
+record Split (s : List ℕ) (found : Bool) (before after : List ℕ) : Type 0 where
+  has : has_end s ≡ found
+  front : before_end s ≡ before
+  behind : after_end s ≡ after
 
-rest_lf : (s : List ℕ) (i : ℕ) → i < length s → get_or s i 0 ≡ 0x0A → before_end (drop i s) ≡ []
-rest_lf s i h k = ap before_end (drop-cons s i 0 h) ∙ end_lf _ _ k
+lf : (c : ℕ) (s : List ℕ) → c ≡ 0x0A → Split (c ∷ s) true [] s
+unfolding has_end after_end
+lf c s e = record {
+  has = choose_true _ _ (eq-eqb c 0x0A e);
+  front = end_lf c s e;
+  behind = choose_true _ _ (eq-eqb c 0x0A e);
+}
 
-rest_none : (s : List ℕ) (i : ℕ) → length s ≤ i → before_end (drop i s) ≡ []
+other : (c : ℕ) (s : List ℕ) → (c ≡ 0x0A → ⊥) → Split (c ∷ s) (has_end s) (c ∷ before_end s) (after_end s)
+unfolding has_end after_end
+other c s n = record {
+  has = choose_false _ _ (ne_eqb c 0x0A n);
+  front = end_other c s n;
+  behind = choose_false _ _ (ne_eqb c 0x0A n);
+}
+
+-- ---- bytes with the end of a line, and without one
+pub ends_so : (s : List ℕ) → has_end s ≡ true → s ≡ before_end s ++ (0x0A ∷ after_end s)
+unfolding has_end
+ends_so [] h = never h
+ends_so (c ∷ s) h = by (λ k. ends_so s k) (eqb c 0x0A) refl
+  where
+    by : (has_end s ≡ true → s ≡ before_end s ++ (0x0A ∷ after_end s)) → (t : Bool) → eqb c 0x0A ≡ t → c ∷ s ≡ before_end (c ∷ s) ++ (0x0A ∷ after_end (c ∷ s))
+    by r true e =
+        let q = lf c s (eqb-true _ _ e) in
+        ap (λ (x : ℕ). x ∷ s) (eqb-true _ _ e) ∙ ap₂ (λ (x y : List ℕ). x ++ (0x0A ∷ y)) (sym q.front) (sym q.behind)
+    by r false e =
+        let q = other c s (eqb-false _ _ e) in
+        ap (λ (t : List ℕ). c ∷ t) (r (sym q.has ∙ h)) ∙ ap₂ (λ (x y : List ℕ). x ++ (0x0A ∷ y)) (sym q.front) (sym q.behind)
+
+pub goes_on_so : (s : List ℕ) → has_end s ≡ false → (before_end s ≡ s) × (after_end s ≡ [])
+unfolding has_end after_end before_end
+goes_on_so [] h = (refl, refl)
+goes_on_so (c ∷ s) h = by (λ k. goes_on_so s k) (eqb c 0x0A) refl
+  where
+    by : (has_end s ≡ false → (before_end s ≡ s) × (after_end s ≡ [])) → (t : Bool) → eqb c 0x0A ≡ t → (before_end (c ∷ s) ≡ c ∷ s) × (after_end (c ∷ s) ≡ [])
+    by r true e = never (sym h ∙ (lf c s (eqb-true _ _ e)).has)
+    by r false e =
+        let q = other c s (eqb-false _ _ e) in
+        let k = r (sym q.has ∙ h) in
+        (q.front ∙ ap (λ (t : List ℕ). c ∷ t) k.0, q.behind ∙ k.1)
+
+-- ---- where it is
+before_len : (s : List ℕ) → position_or_len is_end s ≡ length (before_end s)
 unfolding before_end
-rest_none s i h = rw drop_of_length-le
+before_len [] = refl
+before_len (c ∷ s) = by (before_len s) (eqb c 0x0A) refl
+  where
+    by : position_or_len is_end s ≡ length (before_end s) → (t : Bool) → eqb c 0x0A ≡ t → position_or_len is_end (c ∷ s) ≡ length (before_end (c ∷ s))
+    by r true e = rw e refl
+    by r false e = rw e (ap (λ (n : ℕ). 1 + n) r ∙ omega arith)
 
--- ---- the loop: the rest of the line, added at the present place, gives the whole
-module _ (s : List ℕ) (from : ℕ) (line₀ : List ℕ) (len : ℕ) where
-  abbrev room : ℕ
-  room = length line₀
+position_so : (s : List ℕ) → has_end s ≡ true → position is_end s ≡ Some (length (before_end s))
+position_so s h =
+    let n : length s ≡ length (before_end s) + (length (after_end s) + 1) = ap length (ends_so s h) ∙ length-append (before_end s) (0x0A ∷ after_end s) ∙ omega arith in
+    simp (before_len s, lt-ltb (length (before_end s)) (length s) (omega (arith, n)))
 
-  abbrev whole : List ℕ
-  whole = before_end (drop from s)
+no_position : (s : List ℕ) → has_end s ≡ false → position is_end s ≡ None
+no_position s h =
+    let n : length (before_end s) ≡ length s = ap length (goes_on_so s h).0 in
+    simp (before_len s, le-ltb (length (before_end s)) (length s) (omega (arith, n)))
 
-  abbrev pub Goes : List ℕ → ℕ → ℕ → Type 0
-  Goes line n i =
-      (n ≤ room + 1) × (length line ≡ room) × (i + length (before_end (drop i s)) ≡ from + length whole)
-      × (told_count room (n + length (before_end (drop i s))) ≡ told_count room (len + length whole)) × (sets line n (before_end (drop i s)) ≡ sets line₀ len whole)
+-- what an index says of the bytes
+pub record FoundAt (s : List ℕ) (n : ℕ) : Type 0 where
+  pub has : has_end s ≡ true
+  pub front : take n s ≡ before_end s
+  pub behind : drop (n + 1) s ≡ after_end s
 
-  pub goes_start : (n : ℕ) → n ≡ told_count room len → Goes line₀ n from
-  goes_start n e = rw e (told_most room len, refl, refl, told_more room len (length whole), told_sets line₀ whole len)
+pub found_at : (s : List ℕ) (n : ℕ) → Some n ≡ position is_end s → FoundAt s n
+found_at s n e = by (has_end s) refl
+  where
+    by : (t : Bool) → has_end s ≡ t → FoundAt s n
+    by true h =
+        let k : n ≡ length (before_end s) = (let q : Some n ≡ Some (length (before_end s)) = e ∙ position_so s h in cc) in
+        record {
+          has = h;
+          front = ap₂ take k (ends_so s h) ∙ take_at (before_end s) (0x0A ∷ after_end s) (length (before_end s)) refl;
+          behind = ap₂ (λ (m : ℕ) (t : List ℕ). drop (m + 1) t) k (ends_so s h) ∙ drop-append-add (before_end s) (0x0A ∷ after_end s) 1;
+        }
+    by false h = absurd (let q : ◌≡◌ {A = _} (Some n) None = e ∙ no_position s h in cc)
 
-  pub goes_turn : (line line' : List ℕ) (n n' i : ℕ) → Goes line n i → i < length s → (get_or s i 0 ≡ 0x0A → ⊥)
-      → n' ≡ told_count (length line) (n + 1) → line' ≡ set line n (get_or s i 0) → Goes line' n' (i + 1)
-  goes_turn line line' n n' i g h k p q =
-      let t : List ℕ = before_end (drop (i + 1) s) in
-      let e : before_end (drop i s) ≡ get_or s i 0 ∷ t = rest_turn s i h k in
-      let p' : n' ≡ told_count room (n + 1) = p ∙ ap (λ (m : ℕ). told_count m (n + 1)) g.1 in
-      let l : length (set line n (get_or s i 0)) ≡ room = length-set line n (get_or s i 0) ∙ g.1 in
-      let c : n + 1 + length t ≡ n + length (before_end (drop i s)) = omega (arith, ap length e) in (
-        omega (arith, p', told_most room (n + 1)),
-        ap length q ∙ l,
-        omega (arith, g.2, ap length e),
-        ap (λ (m : ℕ). told_count room (m + length t)) p' ∙ told_more room (n + 1) (length t) ∙ ap (told_count room) c ∙ g.3,
-        ap₂ (λ (x : List ℕ) (m : ℕ). sets x m t) q (p' ∙ ap (λ (m : ℕ). told_count m (n + 1)) (sym l))
-            ∙ told_sets (set line n (get_or s i 0)) t (n + 1) ∙ ap (λ (m : ℕ). sets (set line n (get_or s i 0)) m t) (add-one n)
-            ∙ ap (sets line n) (sym e) ∙ g.4,
-      )
+pub found_none : (s : List ℕ) → None ≡ position is_end s → has_end s ≡ false
+found_none s e = by (has_end s) refl
+  where
+    by : (t : Bool) → has_end s ≡ t → has_end s ≡ false
+    by true h = absurd (let q : ◌≡◌ {A = _} None (Some (length (before_end s))) = e ∙ position_so s h in cc)
+    by false h = h
 
-  -- nothing is left of the line
-  ended : (line : List ℕ) (n i : ℕ) → Goes line n i → before_end (drop i s) ≡ []
-      → (i ≡ from + length whole) × (n ≡ told_count room (len + length whole)) × (line ≡ sets line₀ len whole)
-  ended line n i g z = (
-    omega (arith, g.2, ap length z),
-    told_already room n g.0 ∙ ap (told_count room) (sym (add-zero n)) ∙ ap (λ (l : List ℕ). told_count room (n + length l)) (sym z) ∙ g.3,
-    ap (sets line n) (sym z) ∙ g.4,
-  )
-
-  module _ (line : List ℕ) (n i : ℕ) (g : Goes line n i) where
-    pub goes_line : i < length s → get_or s i 0 ≡ 0x0A → (Line n (i + 1) ≡ line_end_of s from room len) × (line ≡ sets line₀ len whole)
-    unfolding line_end_of
-    goes_line h k =
-        let d = ended line n i g (rest_lf s i h k) in
-        (simp (← d.0, ← d.1, lt-ltb _ _ h), d.2)
-
-    pub goes_more : length s ≤ i → (More n ≡ line_end_of s from room len) × (line ≡ sets line₀ len whole)
-    unfolding line_end_of
-    goes_more h =
-        let d = ended line n i g (rest_none s i h) in
-        (simp (← d.0, ← d.1, le-ltb _ _ h), d.2)
+-- ---- characters added behind the first of a line, as far as there is room
+pub added : (line chars : List ℕ) (len n k : ℕ) → len ≤ length line → n ≡ min (length line - len) (length chars)
+    → take (len + n) (put_mid len k line (take n chars)) ≡ take (length line) (take len line ++ chars)
+added line chars len n k h e =
+    let l : length (take len line) ≡ len = length-take-le len line h in
+    let r : length line ≡ length (take len line) + (length line - len) = omega (arith, l) in
+    take-put_mid len k line (take n chars) (len + n) (omega (arith, length-take-le n chars (omega (arith, e)))) h
+    ∙ ap (λ (t : List ℕ). take len line ++ t) (ap (λ (m : ℕ). take m chars) e ∙ take_min (length line - len) chars)
+    ∙ sym (ap (λ (m : ℕ). take m (take len line ++ chars)) r ∙ take-append-add (take len line) chars (length line - len))

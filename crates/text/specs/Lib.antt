@@ -3,3 +3,4 @@ pub mod Decimal
 pub mod Lines
 pub mod Putting
 pub mod BadLines
+pub mod Texts

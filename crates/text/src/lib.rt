@@ -6,3 +6,4 @@ pub mod decimal;
 pub mod hex;
 pub mod lines;
 pub mod putting;
+pub mod texts;

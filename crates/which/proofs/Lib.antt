@@ -1,3 +1,2 @@
-pub mod PrintingLaws
 pub mod ReadingLaws
 pub mod WritingLaws

@@ -1,9 +1,8 @@
 -- Document 02, request 12: what is printed for a script. Assumes nothing.
-use Rattle.std.specs.Prelude.{List, [], ◌∷◌, ◌++◌, ℕ}
+use Rattle.std.specs.Prelude.{List, [], ◌∷◌, ◌++◌, ℕ, Some, None, Ok, Err}
 use Rattle.text.specs.Decimal.{decimal_text}
-use Rattle.removals.specs.Removals.{which_of}
-use Rattle.removals.specs.declared.searching.Which.{Which}
-use Rattle.removals.specs.declared.searching.Which.TheVariants.{Long, Fallback, Line, None}
+use Rattle.removals.specs.Removals.{Which, which_of}
+use Rattle.removals.specs.declared.searching.NoSearch.TheVariants.{Long, Fallback}
 
 -- "the smallest line number"
 unfoldable pub number_text : ℕ → List ℕ
@@ -20,10 +19,10 @@ abbrev pub none_text : List ℕ
 none_text = 0x4E ∷ 0x4F ∷ 0x4E ∷ 0x45 ∷ 0x0A ∷ []
 
 abbrev pub which_text : Which → List ℕ
-which_text Long = long_text
-which_text Fallback = fallback_text
-which_text (Line n) = number_text n
-which_text None = none_text
+which_text (Err Long) = long_text
+which_text (Err Fallback) = fallback_text
+which_text (Ok (Some n)) = number_text n
+which_text (Ok None) = none_text
 
 -- WHAT IS PRINTED for a script, from its bytes
 abbrev pub printed : List ℕ → List ℕ

@@ -1,33 +1,30 @@
--- A script read into a buffer that has room for one byte more than the longest, and what the writer takes. Assumes nothing.
-use Rattle.std.specs.Prelude.{◌≡◌, ◌⊎◌, List, [], ◌++◌, ℕ, ◌+◌, ◌<◌, take, Some}
-use Rattle.std.specs.Io.KnownBytes.{Keeps, Appends}
+-- A script that was read until it was too long, or to its end. Assumes nothing.
+use Rattle.std.specs.Prelude.{◌≡◌, List, [], ◌++◌, ℕ, ◌+◌, ◌<◌, length}
+use Rattle.std.specs.Io.KnownBytes.{Consumes, IsAtEnd}
 use Rattle.std.specs.declared.option.Option.{Option}
-use Rattle.console.specs.Handing.{AppendsFront}
 use Rattle.removals.specs.Removals.{most_bytes}
 use Rattle.which.specs.Printing.{printed}
 
 abbrev pub room : ℕ
 room = most_bytes + 1
 
--- the first n bytes of the buffer were read of an input: all of it, if they do not fill the buffer
-pub record Reads (script : List ℕ) (n : ℕ) (input : List ℕ) : Type 0 where
+-- a script was read of an input: all of it, if it does not fill the room
+pub record Reads (script input : List ℕ) : Type 0 where
   pub rest : List ℕ
-  pub is : input ≡ take n script ++ rest
-  pub ended : n < room → rest ≡ []
+  pub is : input ≡ script ++ rest
+  pub ended : length script < room → rest ≡ []
 
--- THE PROMISE: for any input of which that was read, what is in the output is what is printed for it
-abbrev pub Tells : List ℕ → ℕ → List ℕ → ℕ → Type 0
-Tells script n out to = (input : List ℕ) → Reads script n input → take to out ≡ printed input
+-- THE PROMISE: for any input of which that was read, what is on the page is what is printed for it
+abbrev pub Tells : List ℕ → List ℕ → Type 0
+Tells script page = (input : List ℕ) → Reads script input → page ≡ printed input
 
--- ---- what the writer takes, for an input: that of the reader, where its bytes are known
--- all that is printed, or nothing, should it not be in the output
-pub record Printed (known old new : Option (List ℕ)) : Type 0 where
-  pub input : List ℕ
-  pub is : (all : List ℕ) → known ≡ Some all → input ≡ all
-  pub took : Appends old new (printed input) ⊎ Keeps old new
+-- ---- what the reader lost
+-- the script, and it is at its end unless the script fills the room
+pub record ScriptRead (known left : Option (List ℕ)) (script : List ℕ) : Type 0 where
+  pub read : Consumes known left script
+  pub full : length script < room → IsAtEnd left
 
--- WHAT AN ERROR LEAVES: a beginning of what is printed
-pub record PrintedFront (known old new : Option (List ℕ)) : Type 0 where
-  pub input : List ℕ
-  pub is : (all : List ℕ) → known ≡ Some all → input ≡ all
-  pub took : AppendsFront old new (printed input)
+-- some bytes
+pub record ScriptLost (known left : Option (List ℕ)) : Type 0 where
+  pub lost : List ℕ
+  pub read : Consumes known left lost

@@ -1,32 +1,29 @@
 // What is printed for a script: one line.
-ghost use Rattle.std.specs.Prelude.{◌≤◌, length};
-ghost use Rattle.text.specs.Putting.{Wrote};
+ghost use Rattle.std.specs.Prelude.{◌≡◌, ◌+◌, ◌≤◌, ◌++◌, length};
 ghost use Rattle.which.specs.Printing.{number_text, which_text};
 
-use removals::Which;
-use text::decimal::put_decimal;
-use text::putting::put_text;
+use console::pages::Page;
+use removals::NoSearch;
 
 // The number of a line.
-#[tactic(auto, using(crate::proofs::PrintingLaws::number_wrote))]
-fn put_number(out: &mut [u8], number: u64) -> usize
-    requires { 32 ≤ length out.old }
-    ensures { Wrote out.old 0 (number_text number) result out.new }
+#[tactic(auto, using(text::proofs::DecimalLaws::decimal_length), unfolding(crate::specs::Printing::number_text))]
+fn put_number(page: &mut Page, number: u64)
+    requires { length page.old + 32 ≤ 16384 }
+    ensures { page.new ≡ page.old ++ number_text number }
 {
-    let a = put_decimal(out, 0, number);
-    put_text(out, a, b"\n")
+    page.put_decimal(number);
+    page.put(b"\n");
 }
 
-// Puts what is printed at the output's start; returns its length.
-#[tactic(auto, using(text::proofs::PuttingLaws::put_whole, crate::proofs::PrintingLaws::same_which))]
-pub fn put_which(out: &mut [u8], w: Which) -> usize
-    requires { 32 ≤ length out.old }
-    ensures { Wrote out.old 0 (which_text w) result out.new }
+// Puts what is printed.
+pub fn put_which(page: &mut Page, which: Result<Option<u64>, NoSearch>)
+    requires { length page.old + 32 ≤ 16384 }
+    ensures { page.new ≡ page.old ++ which_text which }
 {
-    match w {
-        Which::Long => put_text(out, 0, b"LONG\n"),
-        Which::Fallback => put_text(out, 0, b"FALLBACK\n"),
-        Which::Line(n) => put_number(out, n),
-        Which::None => put_text(out, 0, b"NONE\n"),
+    match which {
+        Ok(Some(n)) => put_number(page, n),
+        Ok(None) => page.put(b"NONE\n"),
+        Err(NoSearch::Long) => page.put(b"LONG\n"),
+        Err(NoSearch::Fallback) => page.put(b"FALLBACK\n"),
     }
 }

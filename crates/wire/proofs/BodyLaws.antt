@@ -1,64 +1,61 @@
--- The cases of reading a body, one law for each verdict. Assumes nothing.
-use mathlib.Core.Path.{◌≡◌, ap, ◌∙◌}
-use mathlib.Core.Bool.{true, false}
+-- The cases of reading a body, a law for each; and the unstuffed bytes are those that the array holds. Assumes nothing.
+use mathlib.Core.Path.{◌≡◌, refl, sym, ap, ◌∙◌}
 use mathlib.Core.List.{List}
-use mathlib.Core.Option.{Option, none, some}
-use Prim.Native.Nat.{ℕ, ◌+◌, ◌-◌, ◌*◌, ◌≤◌, ◌<◌}
-use borrow.Author.Tests.{eq-eqb, ne_eqb, lt-ltb, le-ltb}
-use lib.ListN.{length, replicate, take, drop, get_or, length-replicate}
-use lib.Seq.{length-sets}
-use Rattle.stuffing.specs.Stuffing.{unstuff, plain_of, Unstuffed}
-use Rattle.wire.specs.Body.{reserved_addr, fcs_of, refused_body, checked_body, unstuffed_body, read_body}
-use Rattle.wire.specs.declared.Verdict.TheVariants.{Valid, Length, Stuffing, Size, Check, Reserved}
+use Prim.Native.Nat.{ℕ, ◌-◌, ◌≤◌, ◌<◌}
+use native.Mathlib.Omega.{arith}
+use borrow.Author.Tests.{lt-ltb, le-ltb}
+use lib.ListN.{length, take, drop, get_or, length-drop, length-take}
+use lib.Seq.{take-take}
+use Rattle.std.proofs.Math.Nat.{le_of_eq}
+use Rattle.std.proofs.lemmas.List.{take_all}
+use Rattle.std.specs.Prelude.{Option, Some, None, Result, Ok, Err}
+use Rattle.stuffing.specs.Stuffing.{unstuff, told, plain_in}
+use Rattle.stuffing.proofs.StuffingLaws.{plain_back}
+use Rattle.wire.specs.Body.{held_in, Within, checked_body, unstuffed_body, read_body}
+use Rattle.wire.specs.declared.LineFault.{LineFault}
+use Rattle.wire.specs.declared.LineFault.TheVariants.{Length, Stuffing, Size}
 
-module _ (a : ℕ) (xs : List ℕ) (len check sent : ℕ) (c : check ≡ fcs_of a (take (len - 2) xs)) (s : sent ≡ get_or xs (len - 2) 0 * 256 + get_or xs (len - 2 + 1) 0) where
-  pub checked_wrong : (check ≡ sent → ⊥) → refused_body Check ≡ checked_body a xs len
-  unfolding checked_body
-  checked_wrong n = simp (← c, ← s, ne_eqb check sent n)
-
-  pub checked_reserved : check ≡ sent → reserved_addr a ≡ true → refused_body Reserved ≡ checked_body a xs len
-  unfolding checked_body
-  checked_reserved e r = simp (← c, ← s, eq-eqb check sent e, r)
-
-  pub checked_taken : check ≡ sent → reserved_addr a ≡ false → record { verdict = Valid; addr = a; bytes = xs; len = len - 2 } ≡ checked_body a xs len
-  unfolding checked_body
-  checked_taken e r = simp (← c, ← s, eq-eqb check sent e, r)
-
--- unstuffed bytes are held in an array of 272
-pub plain_length : (o : Option (List ℕ)) → length (plain_of o).bytes ≡ 272
-plain_length none = length-replicate {A = ℕ} 272 0
-plain_length (some xs) = length-sets (replicate 272 0) 0 xs ∙ length-replicate {A = ℕ} 272 0
-
-pub held_length : (u : Unstuffed) (s : List ℕ) → u ≡ plain_of (unstuff s) → length u.bytes ≡ 272
-held_length u s e = ap (λ (v : Unstuffed). length v.bytes) e ∙ plain_length (unstuff s)
-
-module _ (a : ℕ) (u : Unstuffed) where
-  pub unstuffed_wrong : u.right ≡ false → refused_body Stuffing ≡ unstuffed_body a u
+module _ (a : ℕ) where
+  pub unstuffed_wrong : Err Stuffing ≡ unstuffed_body a None
   unfolding unstuffed_body
-  unstuffed_wrong e = simp e
+  unstuffed_wrong = refl
 
-  module _ (e : u.right ≡ true) where
-    pub unstuffed_short : u.len < 6 → refused_body Size ≡ unstuffed_body a u
+  module _ (xs : List ℕ) where
+    pub unstuffed_short : length xs < 6 → Err Size ≡ unstuffed_body a (Some xs)
     unfolding unstuffed_body
-    unstuffed_short h = simp (e, lt-ltb _ _ h)
+    unstuffed_short h = simp (lt-ltb _ _ h)
 
-    pub unstuffed_long : 6 ≤ u.len → 271 < u.len → refused_body Size ≡ unstuffed_body a u
+    pub unstuffed_long : 6 ≤ length xs → 271 < length xs → Err Size ≡ unstuffed_body a (Some xs)
     unfolding unstuffed_body
-    unstuffed_long g h = simp (e, le-ltb _ _ g, lt-ltb _ _ h)
+    unstuffed_long g h = simp (le-ltb _ _ g, lt-ltb _ _ h)
 
-    pub unstuffed_fits : 6 ≤ u.len → u.len ≤ 271 → checked_body a u.bytes u.len ≡ unstuffed_body a u
+    pub unstuffed_fits : 6 ≤ length xs → length xs ≤ 271 → checked_body a xs ≡ unstuffed_body a (Some xs)
     unfolding unstuffed_body
-    unstuffed_fits g h = simp (e, le-ltb _ _ g, le-ltb _ _ h)
+    unstuffed_fits g h = simp (le-ltb _ _ g, le-ltb _ _ h)
 
 module _ (s : List ℕ) where
-  pub body_short : length s < 7 → refused_body Length ≡ read_body s
+  pub body_short : length s < 7 → Err Length ≡ read_body s
   unfolding read_body
   body_short h = simp (lt-ltb _ _ h)
 
-  pub body_long : 7 ≤ length s → 543 < length s → refused_body Length ≡ read_body s
+  pub body_long : 7 ≤ length s → 543 < length s → Err Length ≡ read_body s
   unfolding read_body
   body_long g h = simp (le-ltb _ _ g, lt-ltb _ _ h)
 
-  pub body_fits : 7 ≤ length s → length s ≤ 543 → unstuffed_body (get_or s 0 0) (plain_of (unstuff (drop 1 s))) ≡ read_body s
+  pub body_fits : 7 ≤ length s → length s ≤ 543 → unstuffed_body (get_or s 0 0) (unstuff (drop 1 s)) ≡ read_body s
   unfolding read_body
   body_fits g h = simp (le-ltb _ _ g, le-ltb _ _ h)
+
+module _ (s old bytes : List ℕ) (r : Option ℕ) (n : ℕ) where
+  pub body_taken : told r bytes ≡ plain_in old (unstuff (take (length s - 1) (drop 1 s))) → r ≡ Some n → length old ≡ 272
+      → 7 ≤ length s → length s ≤ 543 → 6 ≤ n → n ≤ 271 → checked_body (get_or s 0 0) (take n bytes) ≡ read_body s
+  unfolding read_body unstuffed_body
+  body_taken e q l g h i j =
+      let a : take (length s - 1) (drop 1 s) ≡ drop 1 s = take_all (length s - 1) (drop 1 s) (le_of_eq (length-drop 1 s)) in
+      let k = plain_back old bytes n (unstuff (drop 1 s)) (sym (ap (λ (x : Option ℕ). told x bytes) q) ∙ e ∙ ap (λ (x : List ℕ). plain_in old (unstuff x)) a) (omega arith) in
+      simp (le-ltb _ _ g, le-ltb _ _ h, k.0, k.1, le-ltb _ _ i, le-ltb _ _ j)
+
+-- data within the first bytes of an array are in the array
+pub held_within : (r : Result (ℕ × ℕ) LineFault) (n : ℕ) (bytes : List ℕ) → Within (length (take n bytes)) r → held_in r bytes ≡ held_in r (take n bytes)
+held_within (Ok b) n bytes h = ap (λ (xs : List ℕ). Ok (b.0, xs)) (sym (take-take b.1 n bytes (omega (arith, length-take n bytes))))
+held_within (Err e) n bytes h = refl

@@ -1,27 +1,22 @@
--- A body that was read from bytes holds bytes. Assumes nothing.
+-- A body that was read from bytes has bytes for its application data. Assumes nothing.
+use mathlib.Core.Path.{◌≡◌, subst}
 use mathlib.Core.Bool.{Bool, true, false}
 use mathlib.Core.List.{List, [], ◌∷◌}
-use mathlib.Core.Option.{Option, none, some}
 use Prim.Native.Nat.{ℕ, suc, ◌+◌, ◌-◌, ◌*◌, ◌<◌}
 use native.Mathlib.Omega.{arith}
 use lib.Dec.{eqb, ltb}
-use lib.ListN.{length, take, drop, get_or, replicate}
+use lib.ListN.{length, take, drop, get_or}
+use Rattle.std.specs.Prelude.{Option, Some, None, Ok, Err}
 use Rattle.base.specs.Bytes.{Bytes}
-use Rattle.base.proofs.Bytes.{bytes_nil, bytes_cons, bytes_take, bytes_drop, bytes_replicate}
+use Rattle.base.proofs.Bytes.{bytes_nil, bytes_cons, bytes_take, bytes_drop}
 use Rattle.base.proofs.Choosing.{by_test}
-use Rattle.base.proofs.Stored.{stored_bytes}
-use Rattle.stuffing.specs.Stuffing.{meaning_of, before, unstuff_from, unstuff, plain_of, Unstuffed}
-use Rattle.wire.specs.Body.{fcs_of, reserved_addr, refused_body, checked_body, unstuffed_body, read_body}
-use Rattle.stuffing.specs.declared.Meaning.{Meaning}
-use Rattle.stuffing.specs.declared.Meaning.TheVariants.{Plain, Escape, Wrong}
-use Rattle.wire.specs.declared.Verdict.{Verdict}
-use Rattle.wire.specs.declared.Verdict.TheVariants.{Length, Stuffing, Size, Check, Reserved}
-use Rattle.wire.specs.declared.Body.{Body}
+use Rattle.stuffing.specs.Stuffing.{Meaning, Plain, Escape, Wrong, meaning_of, before, unstuff_from, unstuff}
+use Rattle.wire.specs.Body.{ReadBody, fcs_of, reserved_addr, checked_body, unstuffed_body, read_body}
 
 -- bytes, where there is something
 abbrev PlainBytes : Option (List ℕ) → Type 0
-PlainBytes none = Unit
-PlainBytes (some xs) = Bytes xs
+PlainBytes None = Unit
+PlainBytes (Some xs) = Bytes xs
 
 abbrev PlainByte : Meaning → Type 0
 PlainByte (Plain b) = b < 256
@@ -35,8 +30,8 @@ meaning_byte true b h =
 meaning_byte false b h = by_test PlainByte (eqb b 0x7E) (λ e. tt) (λ e. by_test PlainByte (eqb b 0x7D) (λ d. tt) (λ d. h))
 
 prepend_bytes : (x : ℕ) → x < 256 → (o : Option (List ℕ)) → PlainBytes o → PlainBytes (before (Plain x) (λ e. o))
-prepend_bytes x h none p = tt
-prepend_bytes x h (some ys) p = bytes_cons x ys h p
+prepend_bytes x h None p = tt
+prepend_bytes x h (Some ys) p = bytes_cons x ys h p
 
 before_bytes : (m : Meaning) → PlainByte m → (rest : Bool → Option (List ℕ)) → ((e : Bool) → PlainBytes (rest e)) → PlainBytes (before m rest)
 before_bytes (Plain b) h rest p = prepend_bytes b h (rest false) (p false)
@@ -50,39 +45,32 @@ unstuffed [] false h = bytes_nil
 unstuffed (b ∷ bs) escaped h =
     before_bytes (meaning_of escaped b) (meaning_byte escaped b (h 0)) (λ e. unstuff_from bs e) (λ e. unstuffed bs e (λ i. h (suc i)))
 
-plain_bytes : (o : Option (List ℕ)) → PlainBytes o → Bytes (plain_of o).bytes
-plain_bytes none p = bytes_replicate 272 0 (omega arith)
-plain_bytes (some xs) p = stored_bytes (replicate 272 0) 0 xs (bytes_replicate 272 0 (omega arith)) p
-
 -- ---- the body
-record Holds (b : Body) : Type 0 where
-  all_bytes_lem : Bytes b.bytes
+abbrev pub Holds : ReadBody → Type 0
+Holds (Ok b) = Bytes b.1
+Holds (Err e) = Unit
 
-refused : (v : Verdict) → Holds (refused_body v)
-refused v = record { all_bytes_lem = bytes_replicate 272 0 (omega arith) }
-
-checked : (a : ℕ) (xs : List ℕ) (n : ℕ) → Bytes xs → Holds (checked_body a xs n)
+checked : (a : ℕ) (xs : List ℕ) → Bytes xs → Holds (checked_body a xs)
 unfolding checked_body
-checked a xs n h =
-    by_test Holds (eqb (fcs_of a (take (n - 2) xs)) (get_or xs (n - 2) 0 * 256 + get_or xs (n - 2 + 1) 0))
-    (λ e. by_test Holds (reserved_addr a) (λ f. refused Reserved) (λ f. record { all_bytes_lem = h }))
-    (λ e. refused Check)
+checked a xs h =
+    by_test Holds (eqb (fcs_of a (take (length xs - 2) xs)) (get_or xs (length xs - 2) 0 * 256 + get_or xs (length xs - 2 + 1) 0))
+    (λ e. by_test Holds (reserved_addr a) (λ f. tt) (λ f. bytes_take _ xs h))
+    (λ e. tt)
 
-after_unstuffing : (a : ℕ) (u : Unstuffed) → Bytes u.bytes → Holds (unstuffed_body a u)
+after_unstuffing : (a : ℕ) (o : Option (List ℕ)) → PlainBytes o → Holds (unstuffed_body a o)
 unfolding unstuffed_body
-after_unstuffing a u h =
-    by_test Holds u.right
-    (λ e. by_test Holds (ltb u.len 6) (λ f. refused Size)
-    (λ f. by_test Holds (ltb 271 u.len) (λ g. refused Size) (λ g. checked a u.bytes u.len h)))
-    (λ e. refused Stuffing)
+after_unstuffing a None h = tt
+after_unstuffing a (Some xs) h =
+    by_test Holds (ltb (length xs) 6) (λ f. tt)
+    (λ f. by_test Holds (ltb 271 (length xs)) (λ g. tt) (λ g. checked a xs h))
 
 read : (s : List ℕ) → Bytes s → Holds (read_body s)
 unfolding read_body unstuff
 read s h =
-    by_test Holds (ltb (length s) 7) (λ e. refused Length)
-    (λ e. by_test Holds (ltb 543 (length s)) (λ f. refused Length)
-    (λ f. after_unstuffing (get_or s 0 0) (plain_of (unstuff (drop 1 s))) (plain_bytes (unstuff (drop 1 s)) (unstuffed (drop 1 s) false (bytes_drop 1 s h)))))
+    by_test Holds (ltb (length s) 7) (λ e. tt)
+    (λ e. by_test Holds (ltb 543 (length s)) (λ f. tt)
+    (λ f. after_unstuffing (get_or s 0 0) (unstuff (drop 1 s)) (unstuffed (drop 1 s) false (bytes_drop 1 s h))))
 
 -- the application data of a body
-pub data_bytes : (s : List ℕ) → Bytes s → Bytes (take (read_body s).len (read_body s).bytes)
-data_bytes s h = bytes_take (read_body s).len (read_body s).bytes (read s h).all_bytes_lem
+pub data_bytes : (s : List ℕ) (a : ℕ) (xs : List ℕ) → Bytes s → read_body s ≡ Ok (a, xs) → Bytes xs
+data_bytes s a xs h e = subst Holds e (read s h)

@@ -1,36 +1,60 @@
 -- How the body between two flags is read: numbers 1 to 5. Assumes nothing.
-use Rattle.std.specs.Prelude.{Bool, ◌||◌, List, [], ◌∷◌, ℕ, ◌+◌, ◌-◌, ◌*◌, eqb, ltb, length, replicate, take, drop, get_or}
+use Rattle.std.specs.Prelude.{Bool, ◌||◌, List, ◌∷◌, ℕ, ◌+◌, ◌-◌, ◌*◌, eqb, ltb, length, take, drop, get_or, ◌≡◌, ◌≤◌, replicate, Option, Some, None, Result, Ok, Err}
 use Rattle.std.proofs.Math.Option.{none, some}
+use Rattle.std.proofs.lemmas.List.Edits.{sets}
 use Rattle.base.specs.Choice.{choose, within}
-use Rattle.crc.specs.Crc.{crc_of}
-use Rattle.crc.specs.declared.Poly.TheVariants.{Fcs}
+use Rattle.crc.specs.Crc.{crc_of, Fcs}
 use Rattle.wire.specs.Answer.{Answer}
-use Rattle.stuffing.specs.Stuffing.{unstuff, plain_of, Unstuffed}
-use Rattle.wire.specs.declared.Verdict.{Verdict}
-use Rattle.wire.specs.declared.Verdict.TheVariants.{Valid, Length, Stuffing, Size, Check, Reserved}
+use Rattle.stuffing.specs.Stuffing.{unstuff}
+use Rattle.wire.specs.declared.LineFault.{LineFault}
+use Rattle.wire.specs.declared.LineFault.TheVariants.{Length, Stuffing, Size, Check, Reserved}
 use Rattle.wire.specs.declared.Body.{Body}
-use Rattle.wire.specs.declared.Found.{Found}
 
--- document 01's number for each verdict and, with 0, the address and the application data
-abbrev pub verdict_answer : Verdict → ℕ → List ℕ → Answer (ℕ × List ℕ)
-verdict_answer Valid a xs = (0, some (a, xs))
-verdict_answer Length a xs = (1, none)
-verdict_answer Stuffing a xs = (2, none)
-verdict_answer Size a xs = (3, none)
-verdict_answer Check a xs = (4, none)
-verdict_answer Reserved a xs = (5, none)
+-- document 01's number for each fault
+abbrev pub number_of : LineFault → ℕ
+number_of Length = 1
+number_of Stuffing = 2
+number_of Size = 3
+number_of Check = 4
+number_of Reserved = 5
 
--- the number alone
-abbrev pub verdict_number : Verdict → ℕ
-verdict_number v = (verdict_answer v 0 []).0
+-- a body as it was read: address and application data, or a fault
+abbrev pub ReadBody : Type 0
+ReadBody = Result (ℕ × List ℕ) LineFault
 
--- the answer that a body holds
-abbrev pub body_answer : Body → Answer (ℕ × List ℕ)
-body_answer b = verdict_answer b.verdict b.addr (take b.len b.bytes)
+-- how the code holds it
+abbrev pub shown : Result Body LineFault → ReadBody
+shown (Ok b) = Ok (b.addr, b.«data».now)
+shown (Err e) = Err e
 
--- how the code holds a body: what it found, and a lent array
-abbrev pub body_in : Found → List ℕ → Body
-body_in f xs = record { verdict = f.verdict; addr = f.addr; bytes = xs; len = f.len }
+-- document 01's number and, with 0, the address and the application data
+abbrev pub body_answer : ReadBody → Answer (ℕ × List ℕ)
+body_answer (Ok b) = (0, some b)
+body_answer (Err e) = (number_of e, none)
+
+-- and before the array's part is lent on: the address, and how many bytes of the array are the data; these are in the array
+abbrev pub held_in : Result (ℕ × ℕ) LineFault → List ℕ → ReadBody
+held_in (Ok b) bytes = Ok (b.0, take b.1 bytes)
+held_in (Err e) bytes = Err e
+
+abbrev pub Within : ℕ → Result (ℕ × ℕ) LineFault → Type 0
+Within n (Ok b) = b.1 ≤ n
+Within n (Err e) = Unit
+
+-- what unstuffing leaves in an array of the bytes old: the unstuffed bytes at its start
+abbrev pub Unstuffed : Result (ℕ × ℕ) LineFault → List ℕ → Option (List ℕ) → List ℕ → Type 0
+Unstuffed (Ok b) old (Some xs) bytes = bytes ≡ sets old 0 xs
+Unstuffed (Ok b) old None bytes = ⊥
+Unstuffed (Err e) old u bytes = Unit
+
+-- what the reader leaves in the array: the unstuffed bytes, filled up with zeros; with a fault nothing
+abbrev pub left_in : Result (ℕ × ℕ) LineFault → Option (List ℕ) → List ℕ
+left_in (Ok b) (Some xs) = sets (replicate 272 0) 0 xs
+left_in (Ok b) None = replicate 272 0
+left_in (Err e) u = replicate 272 0
+
+abbrev pub answer_of : Result Body LineFault → Answer (ℕ × List ℕ)
+answer_of r = body_answer (shown r)
 
 -- 00h, 7Dh, 7Eh, 91h to EFh and F9h to FEh are reserved
 unfoldable pub reserved_addr : ℕ → Bool
@@ -40,29 +64,23 @@ reserved_addr a = eqb a 0x00 || eqb a 0x7D || eqb a 0x7E || within 0x91 0xEF a |
 unfoldable pub fcs_of : ℕ → List ℕ → ℕ
 fcs_of a xs = crc_of Fcs (a ∷ xs)
 
--- a refused body holds nothing
-abbrev pub refused_body : Verdict → Body
-refused_body v = record { verdict = v; addr = 0; bytes = replicate 272 0; len = 0 }
-
--- 4, then 5, for an address and len unstuffed bytes; the last two of these are the FCS, high byte first
-unfoldable pub checked_body : ℕ → List ℕ → ℕ → Body
-checked_body a xs len =
-    choose (eqb (fcs_of a (take (len - 2) xs)) (get_or xs (len - 2) 0 * 256 + get_or xs (len - 2 + 1) 0))
-    (choose (reserved_addr a) (refused_body Reserved) (record { verdict = Valid; addr = a; bytes = xs; len = len - 2 }))
-    (refused_body Check)
+-- 4, then 5, for an address and unstuffed bytes; the last two of these are the FCS, high byte first
+unfoldable pub checked_body : ℕ → List ℕ → ReadBody
+checked_body a xs =
+    choose (eqb (fcs_of a (take (length xs - 2) xs)) (get_or xs (length xs - 2) 0 * 256 + get_or xs (length xs - 2 + 1) 0))
+    (choose (reserved_addr a) (Err Reserved) (Ok (a, take (length xs - 2) xs)))
+    (Err Check)
 
 -- 2, then 3: 7 to 272 bytes, including the address and the FCS; the length here leaves out the address
-unfoldable pub unstuffed_body : ℕ → Unstuffed → Body
-unstuffed_body a u =
-    choose u.right
-    (choose (ltb u.len 6) (refused_body Size) (choose (ltb 271 u.len) (refused_body Size) (checked_body a u.bytes u.len)))
-    (refused_body Stuffing)
+unfoldable pub unstuffed_body : ℕ → Option (List ℕ) → ReadBody
+unstuffed_body a None = Err Stuffing
+unstuffed_body a (Some xs) = choose (ltb (length xs) 6) (Err Size) (choose (ltb 271 (length xs)) (Err Size) (checked_body a xs))
 
 -- 1: 7 to 543 bytes; the address is not stuffed
-unfoldable pub read_body : List ℕ → Body
+unfoldable pub read_body : List ℕ → ReadBody
 read_body s =
-    choose (ltb (length s) 7) (refused_body Length)
-    (choose (ltb 543 (length s)) (refused_body Length) (unstuffed_body (get_or s 0 0) (plain_of (unstuff (drop 1 s)))))
+    choose (ltb (length s) 7) (Err Length)
+    (choose (ltb 543 (length s)) (Err Length) (unstuffed_body (get_or s 0 0) (unstuff (drop 1 s))))
 
 -- the answer to a body as it came from the line
 abbrev pub answer_to_body : List ℕ → Answer (ℕ × List ℕ)

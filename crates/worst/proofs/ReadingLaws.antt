@@ -1,19 +1,17 @@
 -- Laws of a step: a line past the millionth, one before it, and one after the work has ended. Assumes nothing.
 use mathlib.Core.Bool.{true, false}
-use mathlib.Core.List.{List, [], ◌∷◌}
-use mathlib.Core.Path.{◌≡◌, refl, sym, ap, ap₂, ◌∙◌}
+use mathlib.Core.List.{[], ◌∷◌}
+use mathlib.Core.Path.{◌≡◌, refl, sym, ap, ◌∙◌}
 use Prim.Native.Nat.{ℕ, ◌≤◌, ◌<◌}
 use borrow.Author.Tests.{le-leb, lt-leb}
 use denote.Enum.Declared.{tag_of}
-use lib.ListN.{set}
 use types.Run.{OneOf, miss}
+use Rattle.std.specs.declared.option.Option.{Option}
 use Rattle.base.proofs.Choosing.{choose_true, choose_false, absurdly}
-use Rattle.stretches.specs.Rolling.{Kept, kept, place, oldest, counted}
-use Rattle.stretches.specs.declared.Tally.{Tally}
+use Rattle.stretches.specs.declared.Kept.{Kept}
 use Rattle.worst.specs.Journeys.{most_lines}
-use Rattle.worst.specs.Reading.{Held, held, is_counting, with_line, read_in, read_line}
-use Rattle.worst.specs.declared.counts.Count.{Count}
-use Rattle.worst.specs.declared.counts.Count.TheVariants.{Refusals}
+use Rattle.worst.specs.declared.reading.Journey.{Journey}
+use Rattle.worst.specs.Reading.{is_counting, with_line, read_in, read_line}
 use Rattle.worst.specs.declared.reading.Work.{Work}
 use Rattle.worst.specs.declared.reading.Work.TheVariants.{Counting, Long, Bad}
 use Rattle.worst.specs.contracts.reading.Work as work-type
@@ -30,7 +28,7 @@ is_counting_lem Long e = absurdly (cc)
 is_counting_lem Bad e = absurdly (cc)
 
 -- ---- a line once the work has ended
-pub read_ended : (h : Held) (count : Count) → is_counting h.work ≡ false → h ≡ read_line h count
+pub read_ended : (h : Journey) (count : Option ℕ) → is_counting h.work ≡ false → h ≡ read_line h count
 unfolding read_line
 read_ended h count e = by h.kept h.work e
   where
@@ -40,7 +38,7 @@ read_ended h count e = by h.kept h.work e
     by k Bad e = refl
 
 -- ---- a line while they are
-module _ (h : Held) (count : Count) (e : h.work ≡ Counting) where
+module _ (h : Journey) (count : Option ℕ) (e : h.work ≡ Counting) where
   pub read_past : most_lines ≤ h.kept.tally.lines → record { kept = h.kept; work = Long } ≡ read_line h count
   unfolding read_line
   read_past p = sym (ap (λ (w : Work). read_in h.kept w count) e ∙ choose_true _ _ (le-leb most_lines h.kept.tally.lines p))
@@ -48,8 +46,3 @@ module _ (h : Held) (count : Count) (e : h.work ≡ Counting) where
   pub read_line_lem : h.kept.tally.lines < most_lines → with_line h.kept count ≡ read_line h count
   unfolding read_line
   read_line_lem p = sym (ap (λ (w : Work). read_in h.kept w count) e ∙ choose_false _ _ (lt-leb most_lines h.kept.tally.lines p))
-
--- a count more
-pub line_counted : (last : List ℕ) (p : Tally) (c : ℕ) (r : Tally) (last' : List ℕ) → r ≡ counted p (oldest last p) c → last' ≡ set last (place p.lines) c
-    → held last' (record { tally = r; work = Counting }) ≡ with_line (kept last p) (Refusals c)
-line_counted last p c r last' e f = ap₂ (λ (j : Tally) (l : List ℕ). held l (record { tally = j; work = Counting })) e f

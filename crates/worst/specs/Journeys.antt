@@ -1,13 +1,10 @@
 -- Document 02, request 11: the lines of a journey, and what is printed for them, over the list of all lines. Assumes nothing.
-use Rattle.std.specs.Prelude.{Bool, false, List, [], ◌∷◌, ◌++◌, ℕ, ◌+◌, eqb, ltb, length}
+use Rattle.std.specs.Prelude.{Bool, false, List, [], ◌∷◌, ◌++◌, ℕ, ◌+◌, eqb, ltb, length, None, Some}
+use Rattle.std.specs.declared.option.Option.{Option}
 use Rattle.base.specs.Choice.{choose}
 use Rattle.text.specs.BadLines.{bad_text}
 use Rattle.text.specs.Decimal.{decimal_of, decimal_text}
-use Rattle.text.specs.declared.decimal.Decimal.{Decimal}
-use Rattle.text.specs.declared.decimal.Decimal.TheVariants.{Number, NotNumber}
 use Rattle.stretches.specs.Stretches.{stretch, most_count, Worst, worst_of}
-use Rattle.worst.specs.declared.counts.Count.{Count}
-use Rattle.worst.specs.declared.counts.Count.TheVariants.{Refusals, None}
 
 -- ---- a line
 -- "a decimal count of refusals from 0 to 255 without leading zeros": 1 to 3 digits; 0 alone begins with 0
@@ -19,15 +16,11 @@ is_zero [] = false
 is_zero (c ∷ []) = eqb c 0x30
 is_zero (c ∷ d ∷ cs) = false
 
-abbrev pub count_from : Decimal → Count
-count_from (Number n) = Refusals n
-count_from NotNumber = None
-
-unfoldable pub count_of : List ℕ → Count
+unfoldable pub count_of : List ℕ → Option ℕ
 count_of cs =
     choose (ltb longest (length cs)) None
-    (choose (is_zero cs) (Refusals 0)
-    (count_from (decimal_of most_count cs)))
+    (choose (is_zero cs) (Some 0)
+    (decimal_of most_count cs))
 
 -- ---- all lines
 -- "for up to a million cycles"
@@ -41,11 +34,11 @@ pub data Lines : Type 0 where
   bad_at : (n : ℕ) → Lines
 
 -- the line with number n, and the lines after it
-abbrev pub with_count : ℕ → Count → Lines → Lines
+abbrev pub with_count : ℕ → Option ℕ → Lines → Lines
 with_count n None ls = bad_at n
-with_count n (Refusals c) (counts cs) = counts (c ∷ cs)
-with_count n (Refusals c) long = long
-with_count n (Refusals c) (bad_at m) = bad_at m
+with_count n (Some c) (counts cs) = counts (c ∷ cs)
+with_count n (Some c) long = long
+with_count n (Some c) (bad_at m) = bad_at m
 
 -- the lines from number n on, "in order": the first fault ends the work
 unfoldable pub lines_from : ℕ → List (List ℕ) → Lines

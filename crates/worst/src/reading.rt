@@ -1,12 +1,14 @@
 // A journey, line by line: the counts so far, and whether a line has ended the work.
 ghost use Rattle.std.specs.Prelude.{◌≡◌};
-ghost use Rattle.stretches.specs.Rolling.{kept, no_counts};
-ghost use Rattle.worst.specs.Reading.{count_in, held, started, with_line, read_line, is_counting};
+ghost use Rattle.worst.specs.Journeys.{count_of};
+ghost use Rattle.worst.specs.Reading.{started, with_line, read_line, is_counting};
+ghost use Rattle.worst.specs.declared.reading.Work.TheVariants.{Counting};
 
-use crate::counts::{Count, count_in};
-use stretches::{Tally, counted};
+use crate::counts::count_of;
+use stretches::Kept;
 
-// Whether lines are still counted, or one past the millionth or of another form has ended the work.
+// Whether lines are still counted, or one past the millionth or of another form has ended the work. It is neither an Option nor a
+// Result: three states, none with a value.
 #[derive(Clone, Copy)]
 pub enum Work {
     Counting,
@@ -14,69 +16,56 @@ pub enum Work {
     Bad,
 }
 
-// The tally of the lines before one that ends the work, and whether lines are still counted.
-#[derive(Clone, Copy)]
-pub struct Reading {
-    pub tally: Tally,
+// What is kept of the lines before one that ends the work, and whether lines are still counted.
+#[derive(Drop)]
+pub struct Journey {
+    pub kept: Kept,
     pub work: Work,
 }
 
 // A line past the millionth is not looked at.
 pub const MOST_LINES: u32 = 1000000;
 
-// Before the first line.
-pub fn start() -> Reading
-    ensures { held no_counts result ≡ started }
-{
-    let tally = stretches::start();
-    Reading {
-        tally,
-        work: Work::Counting,
+impl Journey {
+    // Before the first line.
+    pub fn new() -> Self
+        ensures { result ≡ started }
+    {
+        Journey {
+            kept: Kept::new(),
+            work: Work::Counting,
+        }
     }
-}
 
-pub fn is_counting(p: Reading) -> bool
-    ensures { result ≡ is_counting p.work }
-{
-    let work = p.work;
-    match work {
-        Work::Counting => true,
-        _ => false,
+    pub fn is_counting(&self) -> bool
+        ensures { result ≡ is_counting self.now.work }
+    {
+        matches!(self.work, Work::Counting)
     }
-}
 
-// A line up to the millionth.
-#[tactic(auto, using(crate::proofs::ReadingLaws::line_counted))]
-fn with_line(p: Tally, last: &mut [u8; 1000], line: Count) -> Reading
-    ensures { held last.new result ≡ with_line (kept last.old p) line }
-{
-    let Count::Refusals(c) = line else {
-        return Reading {
-            tally: p,
-            work: Work::Bad,
-        };
-    };
-    let tally = counted(p, last, c);
-    Reading {
-        tally,
-        work: Work::Counting,
+    // A line up to the millionth.
+    fn with_line(&mut self, line: Option<u8>)
+        requires { self.old.work ≡ Counting }
+        ensures { self.new ≡ with_line self.old.kept line }
+    {
+        match line {
+            Some(c) => self.kept.count(c),
+            None => self.work = Work::Bad,
+        }
     }
-}
 
-// Reads a line of `len` characters, of which the buffer keeps as many as it has room for. Once the work has ended, nothing changes.
-#[tactic(auto, using(crate::proofs::ReadingLaws::is_counting_lem, crate::proofs::ReadingLaws::read_ended, crate::proofs::ReadingLaws::read_past, crate::proofs::ReadingLaws::read_line_lem))]
-pub fn read_line(p: Reading, last: &mut [u8; 1000], line: &[u8], len: usize) -> Reading
-    ensures { held last.new result ≡ read_line (held last.old p) (count_in line.now len) }
-{
-    if !is_counting(p) {
-        return p;
+    // Reads a line. Once the work has ended, nothing changes.
+    #[tactic(auto, using(crate::proofs::ReadingLaws::is_counting_lem, crate::proofs::ReadingLaws::read_ended, crate::proofs::ReadingLaws::read_past, crate::proofs::ReadingLaws::read_line_lem))]
+    pub fn read_line(&mut self, line: &[u8])
+        ensures { self.new ≡ read_line self.old (count_of line.now) }
+    {
+        if !self.is_counting() {
+            return;
+        }
+        if MOST_LINES <= self.kept.tally.lines {
+            self.work = Work::Long;
+            return;
+        }
+        self.with_line(count_of(line));
     }
-    let tally = p.tally;
-    if MOST_LINES <= tally.lines {
-        return Reading {
-            tally,
-            work: Work::Long,
-        };
-    }
-    with_line(tally, last, count_in(line, len))
 }

@@ -1,60 +1,42 @@
 // A journey from standard input, line by line, and its worst 1,000 cycles to standard output.
-ghost use Rattle.std.specs.Prelude.{◌≡◌, true, take, IfOk, OnOk, OnErr};
-ghost use Rattle.std.specs.Io.KnownBytes.{Keeps};
-ghost use Rattle.console.specs.Cursors.{told};
-ghost use Rattle.console.specs.Answering.{Begun};
-ghost use Rattle.worst.specs.Reading.{Tells, Ready, Printed, journey_text};
+ghost use Rattle.std.specs.Prelude.{◌≡◌, OnOk, OnErr};
+ghost use Rattle.console.specs.Handing.{Printed, PrintedFront};
+ghost use Rattle.console.specs.Speaking.{spoken};
+ghost use Rattle.worst.specs.Reading.{reading, journey_text};
 
-use crate::reading;
-use crate::reading::{is_counting, read_line};
+use crate::reading::Journey;
 use crate::results::put_result;
-use console::lines::Cursor;
-use console::{blocks, lines};
+use console::answering;
+use console::answering::Answerer;
+use console::pages::Page;
 use std::io;
 use std::io::{Read, Write};
 
-// Reads lines until one ends the work or the input ends, and puts what is printed into the output. Nothing is handed on. An error of
-// the input or the output ends the work too, and leaves what was in the output.
-fn read_all<R: Read, W: Write>(
-    input: &mut R,
-    output: &mut W,
-    block: &mut [u8; 65536],
-    line: &mut [u8; 1200],
-    out: &mut [u8; 16384],
-) -> io::Result<Cursor>
-    ensures ok { IfOk result (λ c. told c ≡ true → Tells block.new out.new c) }
-    ensures text { IfOk result (λ c. Ready (take c.to out.new)) }
-    ensures kept { Keeps (W.contents output.old) (W.contents output.new) }
-    ensures err { OnErr result (out.new ≡ out.old) }
-{
-    let mut last = stretches::no_counts();
-    let mut p = reading::start();
-    let mut c = lines::begin(0);
-    while is_counting(p) {
-        c = lines::next_line(input, output, block, line, out, c)?;
-        if !c.whole {
-            if !c.ended {
-                return Ok(c);
-            }
-            c.to = put_result(out, c.to, p);
-            return Ok(c);
-        }
-        p = read_line(p, &mut last, line, c.len);
+impl Answerer for Journey {
+    ghost says = { λ j lines. spoken reading j lines };
+
+    fn is_done(&self) -> bool {
+        !self.is_counting()
     }
-    c.to = put_result(out, c.to, p);
-    Ok(c)
+
+    fn answer(&mut self, line: &[u8], _page: &mut Page) {
+        self.read_line(line);
+    }
+
+    fn finish(&mut self, page: &mut Page) {
+        put_result(page, self);
+    }
 }
 
-// An error of the input or the output ends the work; of what is printed a beginning may then be written, and nothing else.
-#[tactic(auto, using(crate::proofs::SendingLaws::text_begun))]
+// Prints the worst 1,000 cycles of the journey that the input has, and nothing else. An error of the input or the output ends the
+// work; of what is printed a beginning may then be written.
+#[tactic(auto, using(crate::proofs::Whole::all_printed, crate::proofs::Whole::all_begun))]
 pub fn run<R: Read, W: Write>(input: &mut R, output: &mut W) -> io::Result<()>
-    ensures ok { OnOk result (Printed (W.contents output.old) (W.contents output.new)) }
-    ensures err { OnErr result (Begun journey_text (W.contents output.old) (W.contents output.new)) }
+    ensures ok { OnOk result (Printed journey_text (R.remaining input.old) (R.remaining input.new)
+        (W.contents output.old) (W.contents output.new)) }
+    ensures err { OnErr result (PrintedFront journey_text (R.remaining input.old) (R.remaining input.new)
+        (W.contents output.old) (W.contents output.new)) }
 {
-    let mut block = blocks::no_input();
-    let mut line = text::lines::no_line();
-    let mut out = blocks::no_output();
-    let c = read_all(input, output, &mut block, &mut line, &mut out)?;
-    lines::close(output, &out, c)?;
-    Ok(())
+    let mut journey = Journey::new();
+    answering::run(&mut journey, Page::new(), input, output)
 }

@@ -4,4 +4,4 @@ use Rattle.rules.specs.Calls.{tick}
 use Rattle.promised.proofs.tick.Goals as goal
 
 pub returns : goal.returns
-returns c = (c.tick.ensures, continues _ (tick c.args.xs.now) (λ i. (c.type_inv.xs i).fits) _ _ c.tick.ensures)
+returns c = (c.tick.ensures, continues _ (tick c.args.inputs.now) (λ i. (c.type_inv.inputs i).fits) _ _ c.tick.ensures)

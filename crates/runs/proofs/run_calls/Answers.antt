@@ -11,7 +11,7 @@ loop-at-init c =
       same_log = p.auto.log;
       within = omega (arith, p.ensures.0, p.auto.log, c.if-log-lt-RECORD.false);
       progress = λ fit list e makable.
-          at_start _ _ _ _ c.args.log.now e makable (c.power_up-a.ensures.1.reached fit) p.ensures.1 c.if-log-lt-RECORD.false _ p.ensures.0 _ p.ensures.2;
+          at_start _ _ _ _ c.args.log.now e makable (c.power_up-agent.ensures.1.reached fit) p.ensures.1 c.if-log-lt-RECORD.false _ p.ensures.0 _ p.ensures.2;
     }
 
 pub returns-then-log-to-lt-RECORD : goal.returns-then-log-to-lt-RECORD
@@ -23,7 +23,7 @@ returns-then-log-to-lt-RECORD c =
 pub loop-at-preserved : goal.loop-at-preserved
 loop-at-preserved c =
     let p = c.put-to-in-loop-at in
-    let s = c.step-s in
+    let s = c.step-made in
     let v = c.loop-at.invariant in
     record {
       same_reply = s.auto.reply ∙ v.same_reply;
@@ -31,7 +31,7 @@ loop-at-preserved c =
       within = omega (arith, p.ensures.0, p.auto.log, c.if-log-to-lt-RECORD.false, v.within);
       progress = λ fit list e makable.
           turns _ _ _ _ _ _ _ _ (v.progress fit list e makable) c.loop-at-test.true (omega (arith, c.if-log-to-lt-RECORD.false, v.within))
-          s.result.answer s.result.agent s.result.next _ _ v.same_reply s.ensures p.ensures.1 p.ensures.0 _ p.ensures.2;
+          s.result.answer s.new.agent s.result.next _ _ v.same_reply s.ensures p.ensures.1 p.ensures.0 _ p.ensures.2;
     }
 
 pub returns : goal.returns

@@ -12,7 +12,7 @@ invariant-loop-at l = record {
   same_log : length l.log ≡ length l.fn.log;
   within : l.to ≤ length l.log;
   progress : is_limit l.limit ≡ true → (list : List Call) → l.calls ≡ list_bytes list → AllMakable (length l.fn.reply) list
-      → Progress l.initial.a (length l.fn.reply) list l.calls l.at l.to l.a l.log;
+      → Progress l.initial.agent (length l.fn.reply) list l.calls l.at l.to l.agent l.log;
 }
 
 abbrev pub decreases-loop-at : goal.decreases-loop-at

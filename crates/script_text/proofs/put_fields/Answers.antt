@@ -1,14 +1,22 @@
 -- The answer, the state, what the trace shows and the end of the line. Assumes nothing.
-use Rattle.std.proofs.Common.{◌≡◌, length, arith, rules}
-use Rattle.std.proofs.lemmas.List.{length-take-le}
-use Rattle.agent_replies.specs.Handling.{told}
-use Rattle.script_text.proofs.PrintingLaws.{fields_wrote}
+use Rattle.std.proofs.Common.{rules}
+use Rattle.script_text.specs.Made.{outcome_of}
+use Rattle.script_text.proofs.PrintingLaws.{answer_room, state_room, view_room, fields_put, fields_length}
 use Rattle.script_text.proofs.put_fields.Goals as goal
 
-pub returns : goal.returns
-returns c =
+pub put_state-requires : goal.put_state-requires
+put_state-requires g c = (search rules, answer_room _ _ _ _ _ c.requires.1 c.put_answer.ensures)
+
+pub put_view-requires : goal.put_view-requires
+put_view-requires g c = (search rules, (c.requires.0, state_room _ _ _ _ _ _ _ c.requires.1 c.put_answer.ensures c.put_state.ensures))
+
+pub put-requires : goal.put-requires
+put-requires g c = (search rules, view_room _ _ _ _ _ _ _ _ _ c.requires.1 c.put_answer.ensures c.put_state.ensures c.put_view.ensures.text c.put_view.ensures.most)
+
+pub returns-clause-text : goal.returns-clause-text
+returns-clause-text g c =
     let a = c.args in
-    let s = c.requires in
-    let regs : length a.h.agent.regs ≡ 256 = search rules in
-    fields_wrote a.buf.now a.view a.number (told a.h a.reply.now) _ _ _ _ _ _ _ _ s.2 (omega (arith, s, length-take-le a.h.sent a.reply.now s.0)) (omega arith)
-    c.put_answer-a.ensures c.put_state-b.ensures c.put_view-c.ensures c.put_text.ensures
+    fields_put a.view a.number (outcome_of a.made) a.text.now _ _ _ _ c.put_answer.ensures c.put_state.ensures c.put_view.ensures.text c.put.ensures.text
+
+pub returns-clause-most : goal.returns-clause-most
+returns-clause-most g c = fields_length c.args.view c.args.number (outcome_of c.args.made) c.put_view.ensures.most

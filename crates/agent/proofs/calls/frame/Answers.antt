@@ -1,50 +1,20 @@
--- By the verdict that was found. Assumes nothing.
-use Rattle.std.proofs.Common.{rules, ◌≡◌, ◌≤◌, true, length, refl, sym, ◌∙◌, arith}
-use lib.Seq.{length-take-le}
-use Rattle.rules.specs.Replies.{sent}
-use Rattle.rules.specs.Sound.{sound}
-use Rattle.agent.proofs.CallLaws.{frame_passes}
-use Rattle.agent.proofs.Verdicts.{found_short, found_valid, found_reserved, found_line}
+-- Past the host's numbers: a refusal, or what is sent. Assumes nothing.
+use Rattle.std.proofs.Common.{rules, ◌≡◌, sym, ◌∙◌}
+use Rattle.std.specs.Result.{result_unwrap_or}
+use Rattle.rules.specs.FrameCall.{on_frame}
+use Rattle.rules.specs.Replies.{does}
+use Rattle.agent_state.specs.Refusing.{answer_of}
+use Rattle.agent.proofs.CallLaws.{frame_refused, frame_sends}
 use Rattle.agent.proofs.calls.frame.Goals as goal
 
--- the application data are in the array
-pub slice_bounds-bytes-end : goal.slice_bounds-bytes-end
-slice_bounds-bytes-end c =
-    let r = c.read_into-found in
-    omega (arith, r.array_long, (found_short _ _ _ r.ensures).most)
+pub returns-in_err-says : goal.returns-in_err-says
+returns-in_err-says c =
+    let d : does (answer_of c.from_residual.result) c.on_frame.new.agent ≡ on_frame c.args.port c.args.agent.now c.args.body.now = search rules in
+    let n : result_unwrap_or c.from_residual.result 0 ≡ 0 = search rules in
+    let f = frame_refused c.args.agent.now c.args.port c.args.body.now c.args.reply.now c.if-not-is_sound.ensures.sound c.if-reply-lt-LEAST_ROOM.false (sym c.if-not-is_port.ensures) _ _ d in
+    (f.0, f.1, n ∙ f.2, f.3)
 
-pub slice_bounds-on_app-end : goal.slice_bounds-on_app-end
-slice_bounds-on_app-end c =
-    let r = c.read_into-found in
-    let h : r.result.len ≤ length r.new.bytes = omega (arith, r.array_long, (found_short _ _ _ r.ensures).most) in
-    sym (length-take-le _ _ h)
-
-pub returns-in-Valid : goal.returns-in-Valid
-returns-in-Valid c =
-    let s : true ≡ sound c.args.a = c.if-not-sound.ensures in
-    rw (
-      frame_passes c.args.a c.args.port c.args.body.now (length c.args.reply.now) s c.if-reply-lt-LEAST_ROOM.false c.if-not-known.false,
-      ← (c.on_app.ensures.0 ∙ found_valid _ _ _ c.read_into-found.ensures _ _ c.in-Valid.is),
-    ) (search rules)
-
-pub returns-in-Reserved : goal.returns-in-Reserved
-unfolding sent
-returns-in-Reserved c =
-    let s : true ≡ sound c.args.a = c.if-not-sound.ensures in
-    rw (
-      frame_passes c.args.a c.args.port c.args.body.now (length c.args.reply.now) s c.if-reply-lt-LEAST_ROOM.false c.if-not-known.false,
-      ← (found_reserved _ _ _ c.read_into-found.ensures _ _ c.in-Reserved.is),
-      c.unsent-in-Reserved.ensures,
-    ) (refl, refl, refl, refl)
-
-pub returns-in_default : goal.returns-in_default
-unfolding sent
-returns-in_default c =
-    let s : true ≡ sound c.args.a = c.if-not-sound.ensures in
-    rw (
-      frame_passes c.args.a c.args.port c.args.body.now (length c.args.reply.now) s c.if-reply-lt-LEAST_ROOM.false c.if-not-known.false,
-      ← (found_line _ _ _ c.read_into-found.ensures _ _ c.in_default.not-Valid c.in_default.not-Reserved),
-      c.unsent-in_default.ensures,
-      c.verdict_number.ensures,
-      c.line_marked.ensures,
-    ) (refl, refl, refl, refl)
+pub returns : goal.returns
+returns c =
+    frame_sends c.args.agent.now c.args.port c.args.body.now c.args.reply.now c.if-not-is_sound.ensures.sound c.if-reply-lt-LEAST_ROOM.false (sym c.if-not-is_port.ensures)
+    _ _ _ _ _ c.in_ok-says.ensures (c.send.ensures 0)

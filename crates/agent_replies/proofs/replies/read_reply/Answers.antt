@@ -2,5 +2,5 @@
 use Rattle.agent_replies.proofs.ReplyLaws.{read_error}
 use Rattle.agent_replies.proofs.replies.read_reply.Goals as goal
 
-pub response-f-requires : goal.response-f-requires
-response-f-requires c = (c.requires, read_error _ c.ranges.add.fits)
+pub response-requires : goal.response-requires
+response-requires c = (c.requires, read_error _ c.ranges.add.fits)

@@ -4,7 +4,7 @@ use Rattle.rules.specs.Registers.{ad_ref}
 use Rattle.agent_replies.proofs.ReplyLaws.{sync_error}
 use Rattle.agent_replies.proofs.replies.sync_reply.Goals as goal
 
-pub response-f-requires : goal.response-f-requires
-response-f-requires c =
-    let h : Fits w8 (get_or c.args.a.regs ad_ref 0) = search rules in
+pub response-requires : goal.response-requires
+response-requires c =
+    let h : Fits w8 (get_or c.args.agent.now.regs ad_ref 0) = search rules in
     (c.requires, sync_error _ h.fits)

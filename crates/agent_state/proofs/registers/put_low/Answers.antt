@@ -6,4 +6,4 @@ pub returns : goal.returns
 returns c =
     let l = c.loop-i in
     let a = c.args in
-    low_end l.regs _ a.at l.i a.width l.rest c.loop-i-test.false l.invariant.whole
+    low_end l.regs _ a.at l.i a.width l.rest c.loop-i-test.false l.invariant

@@ -1,12 +1,9 @@
--- A body that was read. Assumes nothing.
-use Rattle.std.proofs.Common.{◌≡◌, length, rules, arith}
-use Rattle.body_cases.proofs.BodyLaws.{read_valid}
+-- A body that was read, or one that was refused. Assumes nothing.
+use Rattle.body_cases.proofs.BodyLaws.{read_refused, read_valid}
 use Rattle.body_cases.proofs.answering.read.Goals as goal
 
-pub returns : goal.returns
-returns c =
-    let n = c.verdict_number-n in
-    let b = c.read_body-b in
-    let l : length b.result.bytes ≡ 272 = search rules in
-    read_valid b.result _ b.ensures.1 _ n.ensures _ c.least-k.result l (c.least-k.ensures.1 b.result.bytes l) (omega arith)
-    (rw (c.add-2.ensures, c.add-t.ensures, c.no_text-2.ensures))
+pub returns-in-Ok : goal.returns-in-Ok
+returns-in-Ok c = read_valid c.args.s.now _ _ _ c.in-Ok.ensures.body (rw (c.add-in-Ok.ensures, c.add.ensures, c.new-t.ensures))
+
+pub returns-in-Err : goal.returns-in-Err
+returns-in-Err c = read_refused c.args.s.now _ _ _ c.in-Err.ensures.body c.number.ensures (rw (c.add-in-Err.ensures, c.new-t.ensures))

@@ -1,7 +1,6 @@
 -- antt tests each of the 256 entries.
 use Rattle.std.proofs.Common.{refl}
-use Rattle.crc.specs.declared.Poly.TheVariants.{Safety}
-use Rattle.crc.specs.Crc.{poly_of, top_bit, crc_bit, crc_bits, crc_byte, crc_from}
+use Rattle.crc.specs.Crc.{Safety, poly_of, top_bit, crc_bit, crc_bits, crc_byte, crc_from}
 use Rattle.crc.specs.Table.{entry_of}
 use Rattle.crc.proofs.Table.{tested, tabled}
 use Rattle.crc.proofs.tables.safety_table.Goals as goal

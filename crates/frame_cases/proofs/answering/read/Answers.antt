@@ -1,19 +1,22 @@
--- A frame that was read. Assumes nothing.
-use Rattle.std.proofs.Common.{◌≡◌, length, rules}
-use Rattle.frame_cases.proofs.FrameLaws.{read_valid}
+-- A frame that was read, or a body that was refused. Assumes nothing.
+use Rattle.frame_cases.proofs.FrameLaws.{read_refused, read_valid}
 use Rattle.frame_cases.proofs.answering.read.Goals as goal
 
-pub returns : goal.returns
-returns c =
-    let r = c.read_frame-r in
-    let l : length r.result.bytes ≡ 272 = search rules in
-    read_valid r.result _ r.ensures.1 _ c.reading_number-n.ensures _ c.least-k.result l (c.least-k.ensures.1 r.result.bytes l) _ _ c.in-Valid.is
+pub returns-in-Ok : goal.returns-in-Ok
+returns-in-Ok c =
+    read_valid c.args.s.now _ _ _ _ c.in-Ok.ensures.frame
     (rw (
-      c.add-3.ensures,
-      c.data_field.ensures,
+      c.add-in-Ok.ensures,
+      c.bytes.ensures,
       c.data_len.ensures,
-      c.data_place.ensures.0,
-      c.add_frame-t.ensures,
-      c.add-2.ensures,
-      c.no_text-2.ensures,
+      c.at-data.ensures.src,
+      c.at-data.ensures.at,
+      c.new.ensures.src,
+      c.data_place.ensures.is,
+      c.add_frame.ensures,
+      c.add.ensures,
+      c.new-t.ensures,
     ))
+
+pub returns-in-Err : goal.returns-in-Err
+returns-in-Err c = read_refused c.args.s.now _ _ _ c.in-Err.ensures.frame c.number.ensures (rw (c.add-in-Err.ensures, c.new-t.ensures))

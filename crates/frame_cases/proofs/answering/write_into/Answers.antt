@@ -7,4 +7,4 @@ pub returns : goal.returns
 returns c =
     let w = c.write_frame-laid in
     let l : length w.new.buf ≤ 600 = omega (arith, w.auto.buf, c.requires) in
-    rw (← w.ensures.0) (laid_says w.result _ _ w.new.buf _ l w.ensures.1 c.laid_answer.ensures)
+    rw (← w.ensures.written) (laid_says w.result _ _ w.new.buf _ l w.ensures.left c.laid_answer.ensures)

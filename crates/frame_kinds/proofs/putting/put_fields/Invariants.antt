@@ -1,16 +1,12 @@
--- The first i fields are put down. Assumes nothing.
-use Rattle.std.proofs.Common.{◌≡◌, ◌+◌, ◌-◌, ◌≤◌, length}
+-- What is left, put at the place reached, gives the whole. Assumes nothing.
+use Rattle.std.proofs.Common.{◌≡◌, ◌+◌, ◌≤◌, length, drop}
 use Rattle.std.proofs.lemmas.List.Edits.{sets}
 use Rattle.fields.specs.Fields.{laid}
-use Rattle.frame_kinds.specs.Holding.{paired}
 use Rattle.frame_kinds.proofs.putting.put_fields.Given as goal
 
-abbrev pub invariant-loop-i : goal.invariant-loop-i
-invariant-loop-i l = record {
-  within : l.i ≤ l.count;
-  place : l.to ≡ l.at + length (laid (paired l.widths l.values l.i));
-  put : l.dst ≡ sets l.fn.dst l.at (laid (paired l.widths l.values l.i));
+abbrev pub invariant-loop-width : goal.invariant-loop-width
+invariant-loop-width l = record {
+  within : l.width-index ≤ length l.fields;
+  place : l.to + length (laid (drop l.width-index l.fields)) ≡ l.at + length (laid l.fields);
+  put : sets l.dst l.to (laid (drop l.width-index l.fields)) ≡ sets l.fn.dst l.at (laid l.fields);
 }
-
-abbrev pub decreases-loop-i : goal.decreases-loop-i
-decreases-loop-i l = l.count - l.i

@@ -6,6 +6,7 @@ use Rattle.frame_text.proofs.explaining.explained.Goals as goal
 
 pub returns-then-is_flagged : goal.returns-then-is_flagged
 returns-then-is_flagged c =
-    let a = c.args in
-    let e : length a.bytes.now - 1 - 1 ≡ length a.bytes.now - 2 = omega arith in
-    c.read_text.ensures ∙ ap (λ (n : ℕ). read_text a.t (take n (drop 1 a.bytes.now))) e ∙ flags_off a.bytes.now a.t (sym c.if-is_flagged.ensures)
+    let t = c.args.text.now in
+    let bs = c.args.bytes.now in
+    let e : length bs - 1 - 1 ≡ length bs - 2 = omega arith in
+    c.read_text.ensures ∙ ap (λ (n : ℕ). read_text t (take n (drop 1 bs))) e ∙ flags_off bs t (sym c.is_flagged.ensures ∙ c.if-is_flagged.true)

@@ -4,7 +4,4 @@ use Rattle.script_lines.specs.Doing.{after_ticks}
 use Rattle.script_lines.proofs.doing.ticks.Given as goal
 
 abbrev pub invariant-loop-i : goal.invariant-loop-i
-invariant-loop-i l = after_ticks (l.n - l.i) l.b ≡ after_ticks l.n l.initial.b
-
-abbrev pub decreases-loop-i : goal.decreases-loop-i
-decreases-loop-i l = l.n - l.i
+invariant-loop-i l = after_ticks (l.n - l.i) l.agent ≡ after_ticks l.n l.fn.agent

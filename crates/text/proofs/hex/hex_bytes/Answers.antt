@@ -1,7 +1,9 @@
-use Rattle.std.proofs.Common.{drop}
-use Rattle.text.specs.Hex.{hex_pairs}
-use Rattle.text.proofs.HexLaws.{read_bytes_lem}
+use Rattle.std.proofs.Common.{◌∙◌, ap, sym}
+use Rattle.text.specs.Hex.{hex_pairs, told}
+use Rattle.text.proofs.HexLaws.{read_all}
 use Rattle.text.proofs.hex.hex_bytes.Goals as goal
 
-pub returns-else-out-n : goal.returns-else-out-n
-returns-else-out-n c = read_bytes_lem (hex_pairs (drop c.args.from c.args.line.now)) _ _ _ c.fill.result c.in-Bytes.ensures c.if-out-n.false c.fill.ensures
+pub returns : goal.returns
+returns c =
+    let k = c.in_ok-n.ensures.ok_part in
+    read_all c.args.out.now _ _ (hex_pairs c.args.text.now) c.read_pairs-2.result _ (ap (λ r. told r c.read_pairs.new.out) (sym k) ∙ c.read_pairs.ensures) c.if-out-n.false c.read_pairs-2.ensures

@@ -1,2 +1,0 @@
-pub mod TickLaws
-pub mod AcceptedLaws

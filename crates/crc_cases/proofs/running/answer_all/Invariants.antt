@@ -1,8 +1,0 @@
--- The lines so far are answered, and their text was handed on or is in the output. Assumes nothing.
-use Rattle.console.specs.Answering.{Sent}
-use Rattle.cases.specs.Cases.{answering}
-use Rattle.crc_cases.specs.Answers.{crc_answers}
-use Rattle.crc_cases.proofs.running.answer_all.Given as goal
-
-abbrev pub invariant-loop : goal.invariant-loop
-invariant-loop g l = Sent (answering crc_answers) (g.W.Write.contents l.fn.output) (g.W.Write.contents l.output) tt l.block l.out l.c

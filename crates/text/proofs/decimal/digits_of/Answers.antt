@@ -1,9 +1,0 @@
-use Rattle.text.proofs.DecimalLaws.{stands_turn, stands_end}
-use Rattle.std.proofs.Common.{rules}
-use Rattle.text.proofs.decimal.digits_of.Goals as goal
-
-pub loop-rest-preserved : goal.loop-rest-preserved
-loop-rest-preserved c = stands_turn _ _ _ _ c.loop-rest.invariant (search rules)
-
-pub returns : goal.returns
-returns c = (c.loop-rest.invariant.0, c.loop-rest.invariant.1, stands_end _ _ _ _ c.loop-rest.invariant (search rules))
