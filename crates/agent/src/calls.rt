@@ -15,6 +15,9 @@ use agent_state::sound::is_sound;
 use agent_ticks::on_tick::on_tick;
 use rules::Agent;
 
+// The number of an answer, for the crates above the agent.
+pub use agent_state::refusal::answer;
+
 // The inputs of a tick call that is accepted, or its refusal. The call in place asks for it first, so that a call which is refused
 // stores nothing.
 #[tactic(auto, unfolding(rules::specs::Calls::tick_call))]

@@ -3,3 +3,4 @@
 
 pub mod fields_in;
 pub mod fields_out;
+pub mod lent;

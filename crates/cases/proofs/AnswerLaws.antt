@@ -1,12 +1,12 @@
 -- Laws of an answer: by the operation; and its text, which is BAD or hex digits, with an LF. Assumes nothing.
 use mathlib.Core.Bool.{Bool, true, false}
 use mathlib.Core.Path.{◌≡◌, refl, sym, ap, ap₂, ◌∙◌}
-use mathlib.Core.List.{List, [], ◌∷◌, ◌++◌, append-nil}
-use Prim.Native.Nat.{ℕ, ◌≤◌, ◌<◌}
+use mathlib.Core.List.{List, [], ◌∷◌, ◌++◌, append-nil, append_assoc}
+use Prim.Native.Nat.{ℕ, ◌+◌, ◌*◌, ◌≤◌, ◌<◌}
 use native.Mathlib.Omega.{arith}
 use borrow.Author.Tests.{ne_eqb, eqb-true, eqb-false}
 use lib.Dec.{eqb}
-use lib.ListN.{length, take, drop}
+use lib.ListN.{length, take, drop, length-append}
 use lib.Seq.{take_at}
 use Rattle.base.specs.Bytes.{bytes_of}
 use Rattle.base.proofs.Numbers.{length_bytes_of}
@@ -36,22 +36,29 @@ some_length s b p q = by (length s) (eqb-false (length s) 0 (sym p ∙ q))
     by : (n : ℕ) → (n ≡ 0 → ⊥) → 0 < n
     by n h = omega arith
 
-pub answer_bad : (bs start new : List ℕ) → length bs ≡ 0 → start ≡ [] → new ≡ with_piece 4097 start (chars "BAD\n") → new ≡ answer_text bs
+-- the text of an answer, put behind what is there
+pub put_bad : (room : ℕ) (bs old new : List ℕ) → length bs ≡ 0 → length old + length (answer_text bs) ≤ room → new ≡ with_piece room old (chars "BAD\n") → new ≡ old ++ answer_text bs
 unfolding answer_text
-answer_bad [] start new e z p = p ∙ ap (λ (s : List ℕ). with_piece 4097 s (chars "BAD\n")) z ∙ sym (piece_fits 4097 [] (chars "BAD\n") (omega arith))
-answer_bad (b ∷ bs) start new e z p = absurd (omega arith)
+put_bad room [] old new e h p = p ∙ sym (piece_fits room old (chars "BAD\n") h)
+put_bad room (b ∷ bs) old new e h p = absurd (omega arith)
 
-some_text : (bs : List ℕ) → 0 < length bs → hex_text bs ++ (0x0A ∷ []) ≡ answer_text bs
+pub put_hex : (room : ℕ) (bs old t₁ new : List ℕ) → 0 < length bs → length old + length (answer_text bs) ≤ room
+    → t₁ ≡ with_piece room old (hex_text bs) → new ≡ with_piece room t₁ (0x0A ∷ []) → new ≡ old ++ answer_text bs
 unfolding answer_text
-some_text [] h = absurd (omega arith)
-some_text (b ∷ bs) h = refl
+put_hex room [] old t₁ new k h p q = absurd (omega arith)
+put_hex room (b ∷ bs) old t₁ new k h p q =
+    let xs = hex_text (b ∷ bs) in
+    let n : length old + (length xs + 1) ≤ room = omega (arith, h, length-append xs (0x0A ∷ [])) in
+    let a : t₁ ≡ old ++ xs = p ∙ sym (piece_fits room old xs (omega arith)) in
+    q ∙ ap (λ (s : List ℕ). with_piece room s (0x0A ∷ [])) a
+    ∙ sym (piece_fits room (old ++ xs) (0x0A ∷ []) (omega (arith, n, length-append old xs)))
+    ∙ append_assoc old xs (0x0A ∷ [])
 
-pub answer_hex : (bs start t₁ new : List ℕ) → 0 < length bs → length bs ≤ 2048 → start ≡ []
-    → t₁ ≡ with_piece 4097 start (hex_text bs) → new ≡ with_piece 4097 t₁ (0x0A ∷ []) → new ≡ answer_text bs
-answer_hex bs start t₁ new h k z p q =
-    let n : length (hex_text bs) ≤ 4096 = omega (arith, text_length bs) in
-    let a : t₁ ≡ hex_text bs = p ∙ ap (λ (s : List ℕ). with_piece 4097 s (hex_text bs)) z ∙ sym (piece_fits 4097 [] (hex_text bs) (omega arith)) in
-    q ∙ ap (λ (s : List ℕ). with_piece 4097 s (0x0A ∷ [])) a ∙ sym (piece_fits 4097 (hex_text bs) (0x0A ∷ []) (omega arith)) ∙ some_text bs h
+-- and its length
+pub answer_most : (bs : List ℕ) (n : ℕ) → 2 ≤ n → length bs ≤ n → length (answer_text bs) ≤ n * 2 + 1
+unfolding answer_text
+answer_most [] n k h = omega arith
+answer_most (b ∷ bs) n k h = omega (arith, text_length (b ∷ bs), length-append (hex_text (b ∷ bs)) (0x0A ∷ []))
 
 -- ---- bytes that are an answer
 pub says_none : (t : List ℕ) → t ≡ [] → Says t []

@@ -4,4 +4,5 @@
 
 pub mod answers;
 pub mod layings;
+pub mod lent;
 pub mod running;

@@ -5,7 +5,7 @@ ghost use Rattle.console.specs.Programs.{transcript};
 ghost use Rattle.console.specs.Speaking.{spoken};
 ghost use Rattle.cases.specs.Cases.{answer_to, answering, case_of, Says};
 
-use crate::answers::{answer_text, case_of};
+use crate::answers::{case_of, put_answer_text};
 use console::answering;
 use console::answering::Answerer;
 use console::pages::Page;
@@ -46,7 +46,7 @@ impl<C: Cases> Answerer for CaseProgram<C> {
     }
 
     fn answer(&mut self, line: &[u8], page: &mut Page) {
-        page.put(answer_text(&answer_line(&self.cases, line)).as_slice());
+        put_answer_text(page, answer_line(&self.cases, line).as_slice());
     }
 
     fn finish(&mut self, _page: &mut Page) {}

@@ -1,6 +1,6 @@
 -- Laws of what a writer took of a text: the front of it, more of it, a beginning; and of what is printed for an input. Assumes nothing.
 use mathlib.Core.Path.{◌≡◌, refl, sym, ap, ◌∙◌}
-use mathlib.Core.Bool.{true}
+use mathlib.Core.Bool.{Bool, true, false}
 use mathlib.Core.List.{List, [], ◌++◌, append_assoc, append-nil}
 use Prim.Native.Nat.{ℕ, ◌-◌}
 use native.Mathlib.Omega.{arith}
@@ -9,22 +9,35 @@ use Rattle.std.specs.Prelude.{None, Some, Ok, Err, OnOk, OnErr}
 use Rattle.std.specs.declared.result.Result.{Result}
 use Rattle.std.proofs.lemmas.List.{take_all}
 use Rattle.std.specs.declared.option.Option.{Option}
-use Rattle.std.specs.Io.KnownBytes.{Appends, Consumes, IsAtEnd}
-use Rattle.console.proofs.KnownLaws.{takes_none, takes_more}
+use Rattle.std.specs.Io.KnownBytes.{Keeps, Appends, Consumes, IsAtEnd}
+use Rattle.console.proofs.KnownLaws.{takes_none, takes_kept, takes_more}
 use Rattle.console.specs.Handing.{HandsOn, AppendsFront, Printed, PrintedFront}
 
 -- ---- the front of a page
+-- nothing of it
+pub hands_none : (a : Option (List ℕ)) (page : List ℕ) → HandsOn a a page page
+hands_none a page = record { front = []; all = refl; took = takes_none a }
+
+pub hands_kept : (a b : Option (List ℕ)) (page : List ℕ) → Keeps a b → HandsOn a b page page
+hands_kept a b page k = record { front = []; all = refl; took = takes_kept a b k }
+
+-- all of it
 pub hands_all : (a b : Option (List ℕ)) (page page' : List ℕ) → Appends a b page → page' ≡ [] → HandsOn a b page page'
 hands_all a b page page' p e = record { front = page; all = ap (λ (u : List ℕ). page ++ u) e ∙ append-nil page; took = p }
+
+-- one part behind the other
+pub hands_both : (a : Option (List ℕ)) (page : List ℕ) (b : Option (List ℕ)) (rest : List ℕ) → HandsOn a b page rest → (c : Option (List ℕ)) (rest' : List ℕ)
+    → HandsOn b c rest rest' → HandsOn a c page rest'
+hands_both a page b rest h c rest' k = record {
+  front = h.front ++ k.front;
+  all = append_assoc h.front k.front rest' ∙ ap (λ (u : List ℕ). h.front ++ u) k.all ∙ h.all;
+  took = takes_more a b c h.front k.front h.took k.took;
+}
 
 module _ (a : Option (List ℕ)) (page : List ℕ) where
   hands_more : (b : Option (List ℕ)) (rest : List ℕ) (c : Option (List ℕ)) (n : ℕ) → HandsOn a b page rest → Appends b c (take n rest)
       → HandsOn a c page (drop n rest)
-  hands_more b rest c n h t = record {
-    front = h.front ++ take n rest;
-    all = append_assoc h.front (take n rest) (drop n rest) ∙ ap (λ (u : List ℕ). h.front ++ u) (take-append-drop n rest) ∙ h.all;
-    took = takes_more a b c h.front (take n rest) h.took t;
-  }
+  hands_more b rest c n h t = hands_both a page b rest h c (drop n rest) (record { front = take n rest; all = take-append-drop n rest; took = t })
 
   -- as the code has the rest
   pub hands_part : (b : Option (List ℕ)) (rest : List ℕ) (c : Option (List ℕ)) (n : ℕ) → HandsOn a b page rest → Appends b c (take n rest)
@@ -45,9 +58,19 @@ module _ (a : Option (List ℕ)) (page : List ℕ) where
   hands_whole b rest c h t = rw (← h.all) (takes_more a b c h.front rest h.took t)
 
 -- ---- a beginning of a text
+-- what was handed on is one of the page
+pub hands_front : (a b : Option (List ℕ)) (page page' : List ℕ) → HandsOn a b page page' → AppendsFront a b page
+hands_front a b page page' h = record { front = h.front; rest = page'; all = h.all; took = h.took }
+
 -- nothing of it
-pub front_none : (a : Option (List ℕ)) (text : List ℕ) → AppendsFront a a text
-front_none a text = record { front = []; rest = text; all = refl; took = takes_none a }
+pub front_none : (a b : Option (List ℕ)) (text : List ℕ) → Keeps a b → AppendsFront a b text
+front_none a b text k = hands_front a b text text (hands_kept a b text k)
+
+-- a text of which it is told whether it was written
+pub front_told : (a b : Option (List ℕ)) (text : List ℕ) (written : Bool) → (written ≡ true → Appends a b text) → (written ≡ false → Keeps a b)
+    → AppendsFront a b text
+front_told a b text true t k = hands_front a b text [] (hands_all a b text [] (t refl) refl)
+front_told a b text false t k = front_none a b text (k refl)
 
 -- is one of any text that goes on from it
 pub front_longer : (a b : Option (List ℕ)) (s t : List ℕ) → AppendsFront a b s → AppendsFront a b (s ++ t)

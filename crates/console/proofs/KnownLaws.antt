@@ -11,6 +11,11 @@ pub takes_none : (a : Option (List ℕ)) → Appends a a []
 takes_none None = tt
 takes_none (Some xs) = sym (append-nil xs)
 
+pub takes_kept : (a b : Option (List ℕ)) → Keeps a b → Appends a b []
+takes_kept None b k = tt
+takes_kept (Some xs) None k = k
+takes_kept (Some xs) (Some ys) k = k ∙ sym (append-nil xs)
+
 pub takes_more : (a b c : Option (List ℕ)) (s t : List ℕ) → Appends a b s → Appends b c t → Appends a c (s ++ t)
 takes_more None b c s t p q = tt
 takes_more (Some xs) None c s t p q = absurd p

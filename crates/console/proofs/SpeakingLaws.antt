@@ -1,4 +1,5 @@
--- What is said from here on: the transcript, from the start; and no more than the end, once a program is quiet. Assumes nothing.
+-- What is said to lines, one after another; and from here on: the transcript, from the start, and no more than the end, once a program is
+-- quiet. Assumes nothing.
 use mathlib.Core.Path.{◌≡◌, refl, sym, ap, ap₂, ◌∙◌}
 use mathlib.Core.List.{List, [], ◌∷◌, ◌++◌, append_assoc}
 use Prim.Native.Nat.{ℕ}
@@ -7,6 +8,13 @@ use Rattle.console.specs.Programs.{Program, Quiet, next_all, says_all, transcrip
 use Rattle.console.specs.Speaking.{spoken}
 
 module _ {S : Type 0} (P : Program S) where
+  -- lines, one after another
+  pub says_append : (s : S) (ls ms : List (List ℕ)) → says_all P s (ls ++ ms) ≡ says_all P s ls ++ says_all P (next_all P s ls) ms
+  says_append s [] ms = refl
+  says_append s (l ∷ ls) ms =
+      ap (λ (t : List ℕ). P.says s l ++ t) (says_append (P.next s l) ls ms)
+      ∙ sym (append_assoc (P.says s l) (says_all P (P.next s l) ls) (says_all P (next_all P (P.next s l) ls) ms))
+
   pub all_spoken : (s : S) (ls : List (List ℕ)) → spoken P s ls ≡ says_all P s ls ++ P.ends (next_all P s ls)
   all_spoken s [] = refl
   all_spoken s (l ∷ ls) =

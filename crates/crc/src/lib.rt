@@ -20,6 +20,7 @@ pub trait Polynomial {
 }
 
 // That of the FCS.
+#[derive(Clone, Copy)]
 pub struct Fcs;
 
 impl Polynomial for Fcs {
@@ -31,6 +32,7 @@ impl Polynomial for Fcs {
 }
 
 // That of the safety CRC.
+#[derive(Clone, Copy)]
 pub struct Safety;
 
 impl Polynomial for Safety {

@@ -9,8 +9,7 @@ ghost use Rattle.rules.specs.Fixed.{fixed_by};
 ghost use Rattle.rules.specs.PowerUp.{power_up};
 ghost use Rattle.demand3.specs.Reached.{Begins, Continues};
 
-use agent::calls::judge_tick;
-use agent_state::refusal::answer;
+use agent::calls::{answer, judge_tick};
 use agent_ticks::on_tick::ticked;
 use rules::Agent;
 
@@ -28,12 +27,13 @@ pub fn saturn_tick(agent: &mut Agent, inputs: &[u8]) -> u8
     ensures { Answers (tick_call agent.old inputs.now) result agent.new
         × Continues agent.old (tick inputs.now) result agent.new }
 {
-    match judge_tick(agent, inputs) {
+    let judged = judge_tick(agent, inputs);
+    match judged {
         Ok(inputs) => {
             *agent = ticked(*agent, inputs);
             0
         }
-        Err(refusal) => refusal.number(),
+        Err(_) => answer(&judged),
     }
 }
 

@@ -2,7 +2,7 @@
 -- Assumes nothing.
 use mathlib.Core.Path.{◌≡◌, refl, sym, ap, ap₂, ◌∙◌}
 use mathlib.Core.Bool.{Bool, true, false}
-use mathlib.Core.List.{List, [], ◌++◌, append_assoc, append-nil}
+use mathlib.Core.List.{List, [], ◌∷◌, ◌++◌, append_assoc, append-nil}
 use Prim.Native.Nat.{ℕ, ◌+◌}
 use native.Mathlib.Omega.{arith}
 use lib.ListN.{length, take, drop, length-append}
@@ -16,6 +16,12 @@ use Rattle.fields.proofs.Tables.{length_laid, read_back, read_back_at}
 use Rattle.frame_kinds.specs.Kinds.{head_of, tail_of, is_safe, data_len, data_place, data_start, data_in, sealed, app_of}
 use Rattle.frame_kinds.specs.declared.kinds.Frame.{Frame}
 use Rattle.frame_kinds.specs.declared.kinds.Frame.TheVariants.{Sync, SafeRead, SafeWrite, PlainRead, PlainWrite, SafeResponse, PlainSyncResponse, PlainResponse, TidAssignment, SidAssignment, SidAssignment4, Acknowledgement, Invariants}
+
+-- fields put down one after another
+pub laid_append : (fs gs : List (ℕ × ℕ)) → laid (fs ++ gs) ≡ laid fs ++ laid gs
+unfolding laid
+laid_append [] gs = refl
+laid_append (f ∷ fs) gs = ap (λ (l : List ℕ). bytes_of f.0 f.1 ++ l) (laid_append fs gs) ∙ sym (append_assoc (bytes_of f.0 f.1) (laid fs) (laid gs))
 
 -- what stands before the safety CRC, and the CRC of a safe frame
 abbrev pub plain_app : Frame → List ℕ → List ℕ

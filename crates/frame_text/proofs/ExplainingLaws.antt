@@ -15,8 +15,10 @@ use Rattle.base.proofs.Choosing.{and_left}
 use Rattle.base.proofs.Numbers.{length_bytes_of}
 use Rattle.base.proofs.Sets.{sets_front}
 use Rattle.text.specs.Putting.{hex_text}
-use Rattle.frame_kinds.specs.Kinds.{data_in}
+use Rattle.frame_kinds.specs.Kinds.{data_len, data_in}
+use Rattle.frame_kinds.specs.Sized.{Sized}
 use Rattle.frame_kinds.specs.declared.kinds.Frame.{Frame}
+use Rattle.frame_kinds.specs.declared.kinds.Frame.TheVariants.{Sync, SafeRead, SafeWrite, PlainRead, PlainWrite, SafeResponse, PlainSyncResponse, PlainResponse, TidAssignment, SidAssignment, SidAssignment4, Acknowledgement, Invariants}
 use Rattle.frame_words.specs.Chars.{chars}
 use Rattle.frame_words.specs.Table.{fields_in, fields_of, has_data, kind_word}
 use Rattle.frame_words.specs.Texts.{Text, put, puts}
@@ -83,3 +85,19 @@ module _ (bs : List ℕ) where
     pub no_flags : is_flagged bs ≡ false → read_text t bs ≡ explained_text t bs
     unfolding explained_text
     no_flags e = rw e
+
+-- a frame that the code holds has at most 255 data bytes
+pub data_most : (f : Frame) → Sized f → data_len f ≤ 255
+data_most (Sync src cyc) h = omega arith
+data_most (SafeRead dest src cyc seq datl add) h = omega arith
+data_most (SafeWrite dest src cyc seq datl add) h = omega arith
+data_most (PlainRead src datl add) h = omega arith
+data_most (PlainWrite src datl add) h = omega arith
+data_most (SafeResponse dest src cyc seq «com» datl add stat) h = omega arith
+data_most (PlainSyncResponse src datl add stat) h = omega arith
+data_most (PlainResponse src «com» datl add) h = omega arith
+data_most (TidAssignment src iid tid) h = omega arith
+data_most (SidAssignment src sec mac sid) h = omega arith
+data_most (SidAssignment4 src sec mac sid sid2 src2) h = omega arith
+data_most (Acknowledgement src dst sec mac) h = omega arith
+data_most (Invariants dest src cyc seq config logic) h = omega arith

@@ -1,11 +1,12 @@
 -- What is printed for a line that is wrong; and for a refusal, which is put after a text. Assumes nothing.
-use Rattle.std.specs.Prelude.{List, [], ◌∷◌, ℕ}
+use Rattle.std.specs.Prelude.{List, [], ◌∷◌, ℕ, Result, Ok, Err}
 use Rattle.text.specs.Decimal.{decimal_text}
 use Rattle.wire.specs.declared.LineFault.TheVariants as line
 use Rattle.frame_forms.specs.declared.FrameFault.TheVariants as form
 use Rattle.frame_reading.specs.Reading.{number_of}
 use Rattle.frame_reading.specs.declared.BodyFault.{BodyFault}
 use Rattle.frame_reading.specs.declared.BodyFault.TheVariants.{Line, Frame}
+use Rattle.frame_reading.specs.declared.Received.{Received}
 use Rattle.frame_words.specs.Chars.{chars}
 use Rattle.frame_words.specs.Texts.{Text, puts}
 use Rattle.frame_text.specs.declared.said.Wrong.{Wrong}
@@ -51,3 +52,8 @@ refused_text t n words = puts (refused_start t n) (words ∷ [])
 -- what the reader of frames refuses
 abbrev pub refused_reading : Text → BodyFault → Text
 refused_reading t e = refused_text t (number_of e) (refusal e)
+
+-- and what it returns for a frame: the number 0, and no words
+abbrev pub refused_as_read : Text → Result Received BodyFault → Text
+refused_as_read t (Ok r) = refused_text t 0 []
+refused_as_read t (Err e) = refused_reading t e

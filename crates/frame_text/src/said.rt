@@ -1,10 +1,10 @@
 // What is printed for a line that is wrong; and for a refusal, which is added to a text.
 ghost use Rattle.std.specs.Prelude.{◌≡◌, [], ◌∷◌};
 ghost use Rattle.frame_words.specs.Texts.{puts};
-ghost use Rattle.frame_text.specs.Said.{bad_start, bad_text, words_of, refusal, refused_reading};
+ghost use Rattle.frame_text.specs.Said.{bad_start, bad_text, words_of, refusal, refused_reading, refused_as_read};
 
 use frame_forms::FrameFault;
-use frame_reading::BodyFault;
+use frame_reading::{BodyFault, Received};
 use frame_words::table::Field;
 use frame_words::texts::Text;
 use wire::LineFault;
@@ -95,4 +95,20 @@ pub fn refused(text: &mut Text, fault: BodyFault)
     text.add_number(fault.number().into());
     text.add(b": ");
     text.add(words_for(fault));
+}
+
+// The same for what the reader of frames returned, a frame too: its number is 0, and it has no words. It is for a caller that holds
+// the reader's result.
+pub fn refused_as_read(text: &mut Text, reading: Result<Received, BodyFault>)
+    ensures { text.new ≡ refused_as_read text.old reading.entry }
+{
+    match reading {
+        Ok(_) => {
+            text.add(b"refused ");
+            text.add_number(0);
+            text.add(b": ");
+            text.add(b"");
+        }
+        Err(fault) => refused(text, fault),
+    }
 }

@@ -1,6 +1,6 @@
 // A script, line by line: the cycle that is open, and the one that a line ends.
-ghost use Rattle.std.specs.Prelude.{◌≡◌, ◌++◌};
-ghost use Rattle.console.specs.Handing.{HasRoom};
+ghost use Rattle.std.specs.Prelude.{◌≡◌, ◌≤◌, ◌++◌, length};
+ghost use Rattle.console.specs.Handing.{HasRoom, with_text};
 ghost use Rattle.frame_reading.specs.Reading.{read_frame};
 ghost use Rattle.rules.specs.Refusals.{is_sync};
 ghost use Rattle.agent_state.specs.Refusing.{answer_of};
@@ -29,7 +29,7 @@ pub struct Counted {
 }
 
 // The module, the number of lines that it has played, and the cycle that is open.
-#[derive(Drop)]
+#[derive(Clone, Copy)]
 pub struct Loading {
     pub agent: Agent,
     pub lines: u32,
@@ -97,13 +97,14 @@ pub fn put_open(page: &mut Page, cycle: Cycle)
     put_cycle(page, cycle);
 }
 
-// Puts the cycle that a line ends, if it opens another.
+// Puts the cycle that a line ends, if it opens another: whole or not at all.
+#[tactic(auto, using(crate::proofs::CyclesLaws::ended_short, crate::proofs::CyclesLaws::ended_none, crate::proofs::CyclesLaws::ended_one))]
 fn put_ended(page: &mut Page, opens: bool, cycle: Cycle)
-    requires { HasRoom page.old }
-    ensures { page.new ≡ page.old ++ ended_text opens cycle }
+    ensures short { length (ended_text opens cycle) ≤ 64 }
+    ensures text { page.new ≡ with_text page.old (ended_text opens cycle) }
 {
     if opens {
-        put_open(page, cycle);
+        put_cycle(page, cycle);
     }
 }
 
@@ -124,11 +125,11 @@ impl Loading {
     }
 
     // Plays what a line asks for, with the bytes of the line; past the millionth line nothing is played.
-    #[tactic(auto, using(crate::proofs::CyclesLaws::past_after, crate::proofs::CyclesLaws::past_shown))]
+    #[tactic(auto, using(crate::proofs::CyclesLaws::past_after, crate::proofs::CyclesLaws::past_shown, crate::proofs::CyclesLaws::few_shown))]
     fn load_form(&mut self, form: Option<Form>, bytes: &[u8; 600], page: &mut Page)
-        requires { HasRoom page.old }
+        ensures short { length (shown self.old (step_in form bytes.now)) ≤ 64 }
         ensures after { self.new ≡ after self.old (step_in form bytes.now) }
-        ensures text { page.new ≡ page.old ++ shown self.old (step_in form bytes.now) }
+        ensures text { page.new ≡ with_text page.old (shown self.old (step_in form bytes.now)) }
     {
         if MOST_LINES <= self.lines {
             return;
@@ -148,11 +149,11 @@ impl Loading {
         self.cycle = cycle_after(line, self.cycle);
     }
 
-    // Plays a line.
+    // Plays a line; its text is put whole or not at all.
     pub fn load_line(&mut self, line: &[u8], page: &mut Page)
-        requires { HasRoom page.old }
+        ensures short { length (shown self.old (line_of line.now)) ≤ 64 }
         ensures after { self.new ≡ after self.old (line_of line.now) }
-        ensures text { page.new ≡ page.old ++ shown self.old (line_of line.now) }
+        ensures text { page.new ≡ with_text page.old (shown self.old (line_of line.now)) }
     {
         let mut bytes = no_bytes();
         let form = read_line(line, &mut bytes);

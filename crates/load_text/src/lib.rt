@@ -1,6 +1,8 @@
 // What is printed for a cycle: the number of its first line, and its share of the line as a quotient and a remainder.
 #![tactic(auto)]
 
+pub mod lent;
+
 ghost use Rattle.std.specs.Prelude.{◌≡◌, ◌+◌, ◌≤◌, ◌<◌, ◌++◌, length};
 ghost use Rattle.text.specs.Texts.{with_piece};
 ghost use Rattle.load_text.specs.Shares.{dividend, divisor, quotient, remainder};

@@ -7,7 +7,7 @@ ghost use Rattle.script_lines.specs.Forms.{line_of};
 ghost use Rattle.removals.specs.Removals.{after_lines};
 
 use crate::lines::Lines;
-use agent_state::state::is_running;
+use agent_state::state::IN_RUN;
 use rules::Agent;
 use script_lines::doing::{do_form, no_reply};
 use script_lines::forms::{no_bytes, read_line};
@@ -15,7 +15,7 @@ use script_lines::forms::{no_bytes, read_line};
 pub fn in_fallback(agent: &Agent) -> bool
     ensures { result ≡ not (running agent.now) }
 {
-    !is_running(agent)
+    agent.mode != IN_RUN
 }
 
 // Plays one line.

@@ -4,7 +4,7 @@ ghost use Rattle.base.specs.Bytes.{number_at};
 ghost use Rattle.demand3.specs.Reached.{Continues};
 ghost use Rattle.runs.specs.CallBytes.{call_of, Stepped};
 
-use agent_state::refusal::answer;
+use agent::calls::answer;
 use fields::Reader;
 use rules::Agent;
 

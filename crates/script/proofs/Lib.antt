@@ -1,3 +1,4 @@
+pub mod LentLaws
 pub mod PlayingLaws
 pub mod HeaderLaws
 pub mod ScriptGood

@@ -6,7 +6,7 @@ ghost use Rattle.script_lines.specs.Forms.{line_of, step_in};
 ghost use Rattle.script_text.specs.Printing.{printed};
 ghost use Rattle.script.specs.Playing.{start, after, shown};
 
-use agent_state::refusal::answer;
+use agent::calls::answer;
 use rules::Agent;
 use script_lines::doing::{do_form, no_reply, script_module};
 use script_lines::forms::{Form, no_bytes, read_line};

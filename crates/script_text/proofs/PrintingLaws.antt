@@ -4,7 +4,7 @@ use mathlib.Core.Bool.{Bool, true, false}
 use mathlib.Core.List.{List, [], ◌∷◌, ◌++◌, append-nil, append_assoc}
 use Prim.Native.Nat.{ℕ, ◌+◌, ◌≤◌}
 use native.Mathlib.Omega.{arith}
-use borrow.Author.Tests.{ne_eqb}
+use borrow.Author.Tests.{eq-eqb, ne_eqb}
 use lib.Dec.{eqb}
 use lib.ListN.{length, length-append}
 use Rattle.base.proofs.Choosing.{by_test}
@@ -20,7 +20,8 @@ use Rattle.rules.specs.Replies.{Outcome}
 use Rattle.rules.specs.State.{running}
 use Rattle.rules.specs.declared.Agent.{Agent}
 use Rattle.script_text.specs.declared.View.{View}
-use Rattle.script_text.specs.Printing.{space, line_end, answer_text, mode_text, state_text, reply_text, trace_text, view_text, fields_text, printed}
+use Rattle.script_text.specs.declared.View.TheVariants.{Script, Trace}
+use Rattle.script_text.specs.Printing.{header_of, space, line_end, answer_text, mode_text, state_text, reply_text, trace_text, view_text, fields_text, printed}
 
 -- ---- how long each part is
 pub answer_length : (n answer : ℕ) → length (answer_text n answer) ≤ 41
@@ -53,6 +54,14 @@ trace_length line regs h k =
       length-append (space ++ reply_text line) space,
       length-append space (reply_text line),
     )
+
+pub view_length : (view : View) (o : Outcome) → length o.line ≤ 545 → length o.agent.regs ≤ 256 → length (view_text view o) ≤ 1604
+view_length Script o h k = omega arith
+view_length Trace o h k = trace_length o.line o.agent.regs h k
+
+pub header_length : (view : View) → length (header_of view) ≤ 64
+header_length Script = omega arith
+header_length Trace = omega arith
 
 -- ---- the parts that are put
 fits : (room : ℕ) (text piece new : List ℕ) → length text + length piece ≤ room → new ≡ with_piece room text piece → new ≡ text ++ piece
@@ -88,6 +97,12 @@ trace_put room text line regs t₁ t₂ t₃ new h k j p q s t =
     let two : t₂ ≡ text ++ (space ++ reply_text line) = b ∙ ap (λ (x : List ℕ). x ++ reply_text line) a ∙ append_assoc text space (reply_text line) in
     let three : t₃ ≡ text ++ ((space ++ reply_text line) ++ space) = c ∙ ap (λ (x : List ℕ). x ++ space) two ∙ append_assoc text (space ++ reply_text line) space in
     d ∙ ap (λ (x : List ℕ). x ++ hex_text regs) three ∙ append_assoc text ((space ++ reply_text line) ++ space) (hex_text regs)
+
+pub mode_run : (a : Agent) → a.mode ≡ 1 → 0x20 ∷ 0x52 ∷ 0x20 ∷ [] ≡ mode_text a
+mode_run a e = rw (eq-eqb a.mode 1 e)
+
+pub mode_fallback : (a : Agent) → (a.mode ≡ 1 → ⊥) → 0x20 ∷ 0x46 ∷ 0x20 ∷ [] ≡ mode_text a
+mode_fallback a e = rw (ne_eqb a.mode 1 e)
 
 pub reply_none : (line : List ℕ) → length line ≡ 0 → 0x2D ∷ [] ≡ reply_text line
 reply_none line e = rw e
@@ -148,10 +163,15 @@ fields_length view n o m =
       length-append (two ++ view_text view o) line_end,
     )
 
-pub printed_length : (view : View) (n : ℕ) (b : Bool) (o : Outcome) → length (fields_text view n o) ≤ 1700 → b ≡ false → length (printed view n b o) ≤ 1700
+pub fields_printed : (view : View) (n : ℕ) (b : Bool) (o : Outcome) → length (fields_text view n o) ≤ 1700 → b ≡ false → length (printed view n b o) ≤ 1700
 unfolding printed
-printed_length view n b o m e = rw e m
+fields_printed view n b o m e = rw e m
 
 pub bad_printed : (view : View) (n : ℕ) (b : Bool) (o : Outcome) → b ≡ true → length (printed view n b o) ≤ 1700
 unfolding printed
 bad_printed view n b o e = rw e (omega (arith, bad_length n))
+
+pub printed_length : (view : View) (n : ℕ) (b : Bool) (o : Outcome) → length o.line ≤ 545 → length o.agent.regs ≤ 256 → length (printed view n b o) ≤ 1700
+unfolding printed
+printed_length view n b o h k =
+    by_test (λ (l : List ℕ). length l ≤ 1700) b (λ e. omega (arith, bad_length n)) (λ e. fields_length view n o (view_length view o h k))

@@ -1,12 +1,14 @@
 // What is printed for a line of a script, put behind a text of any room.
 #![tactic(auto)]
 
+pub mod lent;
+
 ghost use Rattle.std.specs.Prelude.{◌≡◌, ◌+◌, ◌≤◌, ◌++◌, length};
 ghost use Rattle.text.specs.Texts.{with_piece};
 ghost use Rattle.script_text.specs.Made.{outcome_of};
 ghost use Rattle.script_text.specs.Printing.{header_of, answer_text, mode_text, state_text, reply_text, trace_text, view_text, fields_text, printed};
 
-use agent_state::state::is_running;
+use agent_state::state::IN_RUN;
 use rules::Agent;
 use text::bad_lines::put_bad;
 use text::texts::Text;
@@ -48,10 +50,11 @@ fn put_answer<const ROOM: usize>(text: &mut Text<ROOM>, number: u64, answer: u8)
 }
 
 // F or R.
+#[tactic(auto, using(crate::proofs::PrintingLaws::mode_run, crate::proofs::PrintingLaws::mode_fallback))]
 fn put_mode<const ROOM: usize>(text: &mut Text<ROOM>, agent: &Agent)
     ensures { text.new ≡ with_piece ROOM text.old (mode_text agent.now) }
 {
-    if is_running(agent) {
+    if agent.mode == IN_RUN {
         text.add(b" R ");
     } else {
         text.add(b" F ");

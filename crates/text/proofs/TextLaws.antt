@@ -1,7 +1,7 @@
 -- What a piece adds to a text that is kept in a buffer of some room. Assumes nothing.
 use mathlib.Core.Path.{◌≡◌, refl, sym, ap, ap₂, ◌∙◌}
 use mathlib.Core.Bool.{Bool, true, false}
-use mathlib.Core.List.{List, ◌++◌}
+use mathlib.Core.List.{List, [], ◌++◌}
 use Prim.Native.Nat.{ℕ, ◌+◌, ◌≤◌, ◌<◌}
 use native.Mathlib.Omega.{arith}
 use borrow.Author.Tests.{le-leb, lt-leb, leb-true, leb-false}
@@ -14,7 +14,7 @@ use Rattle.text.specs.Decimal.{decimal_text}
 use Rattle.text.specs.Putting.{put_at, place_after, Wrote}
 use Rattle.text.specs.Texts.{with_piece}
 use Rattle.text.proofs.DecimalLaws.{decimal_length}
-use Rattle.text.proofs.PuttingLaws.{Put, put_whole}
+use Rattle.text.proofs.PuttingLaws.{Put, put_whole, same_put}
 
 -- ---- whole, or not at all
 pub piece_fits : (room : ℕ) (text piece : List ℕ) → length text + length piece ≤ room → text ++ piece ≡ with_piece room text piece
@@ -39,6 +39,12 @@ pub filled : (room : ℕ) (text chars new : List ℕ) → length text + length c
 filled room text chars new h e =
     let t : new ≡ text ++ chars = e ∙ take_all room (text ++ chars) (omega (arith, length-append text chars)) in
     (t, ap length t ∙ length-append text chars)
+
+-- a piece that fits, put together behind a text that was empty, and then at an index of a lent buffer
+pub piece_lent : (room : ℕ) (buf : List ℕ) (at : ℕ) (piece none text chars : List ℕ) (r : ℕ) (out : List ℕ) → length piece ≤ room
+    → none ≡ [] → text ≡ with_piece room none piece → chars ≡ text → Put buf at chars r out → Put buf at piece r out
+piece_lent room buf at piece none text chars r out h e p q =
+    same_put buf at chars piece r out (q ∙ p ∙ ap (λ (t : List ℕ). with_piece room t piece) e ∙ sym (piece_fits room [] piece (omega arith)))
 
 -- ---- a piece put at the end of the text in a buffer
 module _ (room : ℕ) (buf : List ℕ) (len : ℕ) (s : List ℕ) (r : ℕ) (out : List ℕ) (e : length buf ≡ room) (h : len ≤ room) where

@@ -10,7 +10,7 @@ use crate::putting::put_bytes;
 use std::marker::Model;
 
 // A text of at most ROOM characters.
-#[derive(Drop)]
+#[derive(Clone, Drop)]
 pub struct Text<const ROOM: usize> {
     chars: [u8; ROOM],
     len: usize,

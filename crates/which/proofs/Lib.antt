@@ -1,2 +1,3 @@
 pub mod ReadingLaws
 pub mod WritingLaws
+pub mod PrintingLaws

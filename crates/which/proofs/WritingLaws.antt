@@ -10,6 +10,7 @@ use Rattle.std.specs.Io.KnownBytes.{Appends}
 use Rattle.std.specs.declared.option.Option.{Option}
 use Rattle.base.proofs.Choosing.{never}
 use Rattle.console.specs.Handing.{AppendsFront, Printed, PrintedFront}
+use Rattle.console.proofs.KnownLaws.{keeps_same}
 use Rattle.console.proofs.HandingLaws.{front_none}
 use Rattle.which.specs.Printing.{printed}
 use Rattle.which.specs.Reading.{room, Tells, ScriptRead, ScriptLost}
@@ -21,7 +22,7 @@ read_lost known left a x = record {
   ended = false;
   lost = x.read;
   last = λ e. never e;
-  took = λ rest e. front_none a (printed (x.lost ++ rest));
+  took = λ rest e. front_none a a (printed (x.lost ++ rest)) (keeps_same a);
 }
 
 -- it was written, or begun

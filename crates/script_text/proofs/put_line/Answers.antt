@@ -1,5 +1,5 @@
 -- A bad line, or the fields. Assumes nothing.
-use Rattle.script_text.proofs.PrintingLaws.{line_bad, line_fields, printed_length, bad_printed}
+use Rattle.script_text.proofs.PrintingLaws.{line_bad, line_fields, fields_printed, bad_printed}
 use Rattle.script_text.proofs.put_line.Goals as goal
 
 pub returns-then-bad-clause-text : goal.returns-then-bad-clause-text
@@ -12,4 +12,4 @@ pub returns-else-bad-clause-text : goal.returns-else-bad-clause-text
 returns-else-bad-clause-text g c = line_fields _ _ _ _ _ _ c.if-bad.false c.put_fields.ensures.text
 
 pub returns-else-bad-clause-most : goal.returns-else-bad-clause-most
-returns-else-bad-clause-most g c = printed_length _ _ _ _ c.put_fields.ensures.most c.if-bad.false
+returns-else-bad-clause-most g c = fields_printed _ _ _ _ c.put_fields.ensures.most c.if-bad.false

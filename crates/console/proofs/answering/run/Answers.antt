@@ -61,4 +61,4 @@ returns-then-not-branch g c =
 
 -- more lines than any input has
 pub returns-clause-err : goal.returns-clause-err
-returns-clause-err g c = stands_fails _ _ _ _ _ _ _ _ _ c.loop.invariant _ _ (keeps_same _) (front_none _ _)
+returns-clause-err g c = stands_fails _ _ _ _ _ _ _ _ _ c.loop.invariant _ _ (keeps_same _) (front_none _ _ _ (keeps_same _))
