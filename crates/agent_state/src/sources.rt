@@ -7,7 +7,7 @@ use crate::state::NOBODY;
 use rules::Agent;
 
 // x is one of the first n. A loop by place: the test of soundness asks this for each that is recorded, in every call, and the
-// library's `contains` took a quarter more of a tick.
+// library's `contains` takes more instructions.
 #[tactic(auto, using(crate::proofs::SourceLoops::holds_none, crate::proofs::SourceLoops::holds_turn, crate::proofs::SourceLoops::holds_found))]
 fn holds(known: &[u32; 8], n: usize, x: u32) -> bool
     requires { n ≤ 8 }

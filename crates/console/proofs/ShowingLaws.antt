@@ -4,10 +4,12 @@ use mathlib.Core.Bool.{Bool, true, false}
 use mathlib.Core.List.{List, [], ◌∷◌, ◌++◌}
 use Prim.Native.Nat.{ℕ, zero, suc, ◌≤◌, ◌<◌}
 use native.Mathlib.Omega.{arith}
-use borrow.Author.Tests.{ltb-true, ltb-false}
-use lib.Dec.{ltb}
-use lib.ListN.{length, take}
-use Rattle.std.proofs.lemmas.List.{take_all, length-take-le}
+use borrow.Author.Tests.{ltb-true, ltb-false, leb-true, leb-false}
+use lib.Dec.{ltb, leb}
+use lib.ListN.{length, take, length-take}
+use Rattle.std.specs.Prelude.{min}
+use Rattle.std.proofs.lemmas.List.{take_all, take-take, length-take-le}
+use Rattle.text.specs.Lines.{before_end}
 use Rattle.console.specs.Showing.{shown}
 
 take_twice : (n : ℕ) (cs b : List ℕ) → take n (take n cs ++ b) ≡ take n (cs ++ b)
@@ -22,6 +24,21 @@ shown_more cs b = take_twice 1201 cs b
 pub shown_none : [] ≡ shown []
 unfolding shown
 shown_none = refl
+
+-- a line that lies in a block whole, none of it before
+pub shown_whole : (line block : List ℕ) (n k : ℕ) → line ≡ [] → take n block ≡ before_end block → k ≡ min n 1201 → take k block ≡ shown (line ++ before_end block)
+unfolding shown
+shown_whole line block n k e f m = by (leb n 1201) refl ∙ ap (take 1201) (f ∙ ap (λ (t : List ℕ). t ++ before_end block) (sym e))
+  where
+    by : (t : Bool) → leb n 1201 ≡ t → take k block ≡ take 1201 (take n block)
+    by true t =
+        let h : n ≤ 1201 = leb-true _ _ t in
+        let j : k ≡ n = omega (arith, m) in
+        ap (λ (i : ℕ). take i block) j ∙ sym (take_all 1201 (take n block) (omega (arith, length-take n block)))
+    by false t =
+        let h : 1201 < n = leb-false _ _ t in
+        let j : k ≡ 1201 = omega (arith, m) in
+        ap (λ (i : ℕ). take i block) j ∙ sym (take-take 1201 n block (omega arith))
 
 nothing_taken : (n : ℕ) (cs : List ℕ) → [] ≡ take (suc n) cs → cs ≡ []
 nothing_taken n [] e = refl

@@ -1,15 +1,18 @@
 // A program that answers lines, and the loop that it runs in.
-ghost use Rattle.std.specs.Prelude.{◌≡◌, [], List, ◌∷◌, ◌++◌, ℕ, IfOk, OnOk, OnErr, IsTrue, IsFalse};
+ghost use Rattle.std.specs.Prelude.{◌≡◌, [], List, ◌∷◌, ◌++◌, ℕ, Some, IfSome, IfOk, OnOk, OnErr, IsTrue, IsFalse};
+ghost use Rattle.std.specs.List.{position};
 ghost use Rattle.std.specs.Io.KnownBytes.{Keeps, Appends, Consumes, IsAtEnd};
+ghost use Rattle.text.specs.Lines.{is_end};
 ghost use Rattle.console.specs.Lines.{Free, lines_of};
 ghost use Rattle.console.specs.Handing.{HasRoom, HandsOn, AppendsFront, Printed, PrintedFront};
 ghost use Rattle.console.specs.Showing.{shown};
 
 use crate::blocks::Block;
-use crate::lines::Line;
+use crate::lines::{Line, SHOWN};
 use crate::pages::{Page, hand_on, make_room};
 use std::io;
 use std::io::{Read, Write};
+use text::lines::line_end;
 
 // A program that answers lines.
 pub trait Answerer {
@@ -71,6 +74,16 @@ fn next_block<R: Read, W: Write>(
     block.fill(input)
 }
 
+// Where the next line ends, if all of it lies in the block: nothing of it was kept from the block before.
+fn whole_line(line: &Line, block: &Block) -> Option<usize>
+    ensures { IfSome result (λ n. (line.now ≡ []) × (Some n ≡ position is_end block.now)) }
+{
+    if line.as_slice().is_empty() {
+        return line_end(block.as_slice());
+    }
+    None
+}
+
 // Answers all lines of the input, or those up to the end of the program's work; what stands on the page comes first. A proved loop
 // has to end, and nothing says that the input does: so it has a number of turns that no run uses up.
 pub fn run<P: Answerer, R: Read, W: Write>(
@@ -89,6 +102,13 @@ pub fn run<P: Answerer, R: Read, W: Write>(
     for _ in 0..u64::MAX {
         if program.is_done() {
             return close(program, &mut page, output);
+        }
+        // a line that lies in the block whole is not copied
+        if let Some(n) = whole_line(&line, &block) {
+            make_room(&mut page, output)?;
+            program.answer(&block.as_slice()[..n.min(SHOWN)], &mut page);
+            block.pass(n + 1);
+            continue;
         }
         if block.take_line(&mut line) {
             make_room(&mut page, output)?;

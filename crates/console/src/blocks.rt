@@ -1,5 +1,5 @@
 // Blocks of standard input, and the lines in them.
-ghost use Rattle.std.specs.Prelude.{◌≡◌, ◌≤◌, ℕ, List, ◌++◌, [], take, drop, IfOk, OnErr, MatchResult, IsFalse};
+ghost use Rattle.std.specs.Prelude.{◌≡◌, ◌≤◌, ℕ, List, ◌++◌, [], length, take, drop, IfOk, OnErr, MatchResult, IsFalse};
 ghost use Rattle.std.specs.Io.{ReadsAtMost};
 ghost use Rattle.std.specs.Io.KnownBytes.{Keeps, Consumes, IsAtEnd, ReadConsumes};
 ghost use Rattle.text.specs.Lines.{before_end, has_end, after_end};
@@ -75,6 +75,20 @@ impl Block {
             at: 0,
             end: 0,
         }
+    }
+
+    pub fn as_slice(&self) -> &[u8]
+        ensures { result.now ≡ self.now }
+    {
+        &self.bytes[self.at..self.end]
+    }
+
+    // Goes on behind the first `n` bytes.
+    pub fn pass(&mut self, n: usize)
+        requires { n ≤ length self.old }
+        ensures { self.new ≡ drop n self.old }
+    {
+        self.at += n;
     }
 
     // Moves what is left of a line to the line; returns whether its end was there.

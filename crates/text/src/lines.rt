@@ -1,5 +1,5 @@
 // Lines of input: a line ends with LF alone, and may be spread over blocks of any size.
-ghost use Rattle.std.specs.Prelude.{◌≡◌, ◌≤◌, ◌++◌, length, take};
+ghost use Rattle.std.specs.Prelude.{◌≡◌, ◌≤◌, ◌++◌, length, take, drop};
 ghost use Rattle.std.specs.List.{position};
 ghost use Rattle.text.specs.Lines.{is_end};
 
@@ -17,6 +17,7 @@ pub fn add_chars(line: &mut [u8], len: usize, chars: &[u8]) -> usize
     requires { len ≤ length line.old }
     ensures len { result ≤ length line.old }
     ensures line { take result line.new ≡ take (length line.old) (take len line.old ++ chars.now) }
+    ensures behind { drop result line.new ≡ drop result line.old }
 {
     let n = (line.len() - len).min(chars.len());
     line[len..len + n].copy_from_slice(&chars[..n]);

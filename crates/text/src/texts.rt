@@ -9,21 +9,34 @@ use crate::lines::{LF, add_chars};
 use crate::putting::put_bytes;
 use std::marker::Model;
 
-// A text of at most ROOM characters.
-#[derive(Clone, Drop)]
+// A text of at most ROOM characters. The bytes behind it are zero: its characters give every byte of it, which Copy asks for.
+#[derive(Clone, Copy)]
 pub struct Text<const ROOM: usize> {
     chars: [u8; ROOM],
     len: usize,
 }
 
 impl<const ROOM: usize> Model for Text<ROOM> {
-    ghost use Rattle.std.specs.Prelude.{◌≡◌, ◌≤◌, List, ℕ, length, take};
+    ghost use Rattle.std.specs.Prelude.{◌≡◌, ◌-◌, ◌≤◌, ◌++◌, List, ℕ, length, take, drop, replicate};
+    ghost use Rattle.std.proofs.Common.{arith, sym, ap, ◌∙◌, take-append-drop, length-take-le};
 
     ghost Value = { List ℕ };
 
     ghost view = { λ t. take t.len t.chars };
 
-    ghost invariant = { λ t. (t.len ≤ ROOM) × (length t.chars ≡ ROOM) };
+    ghost invariant = { λ t. (t.len ≤ ROOM) × (length t.chars ≡ ROOM) × (drop t.len t.chars ≡ replicate (ROOM - t.len) 0) };
+
+    ghost inverse = { λ s. record { chars = s ++ replicate (ROOM - length s) 0; len = length s } };
+
+    ghost inverse_ok = { λ t h i.
+        let e = length-take-le t.len t.chars (omega (arith, h)) in
+        record {
+          chars =
+              (ap (λ n. take t.len t.chars ++ replicate (ROOM - n) 0) e
+              ∙ ap (λ zeros. take t.len t.chars ++ zeros) (sym h.2)
+              ∙ take-append-drop t.len t.chars) i;
+          len = e i;
+        } };
 }
 
 impl<const ROOM: usize> Text<ROOM> {
@@ -46,6 +59,7 @@ impl<const ROOM: usize> Text<ROOM> {
     pub fn clear(&mut self)
         ensures { self.new ≡ [] }
     {
+        self.chars[..self.len].fill(0);
         self.len = 0;
     }
 
@@ -78,7 +92,7 @@ impl<const ROOM: usize> Text<ROOM> {
     }
 
     // Adds bytes in two digits each, whole or not at all.
-    #[tactic(auto, using(crate::proofs::TextLaws::piece_put, crate::proofs::TextLaws::room_kept))]
+    #[tactic(auto, using(crate::proofs::TextLaws::piece_put, crate::proofs::TextLaws::room_kept, crate::proofs::TextLaws::zeros_kept))]
     pub fn add_hex(&mut self, bytes: &[u8])
         ensures { self.new ≡ with_piece ROOM self.old (hex_text bytes.now) }
     {
@@ -86,7 +100,7 @@ impl<const ROOM: usize> Text<ROOM> {
     }
 
     // Adds a number in decimal, whole or not at all.
-    #[tactic(auto, using(crate::proofs::TextLaws::piece_put, crate::proofs::TextLaws::room_kept))]
+    #[tactic(auto, using(crate::proofs::TextLaws::piece_put, crate::proofs::TextLaws::room_kept, crate::proofs::TextLaws::zeros_kept))]
     pub fn add_number(&mut self, n: u64)
         ensures { self.new ≡ with_piece ROOM self.old (decimal_text n) }
     {
@@ -101,6 +115,7 @@ impl<const ROOM: usize> Text<ROOM> {
     }
 
     // Adds characters, as far as there is room.
+    #[tactic(auto, using(crate::proofs::TextLaws::kept_filled))]
     pub fn fill(&mut self, chars: &[u8])
         ensures { self.new ≡ take ROOM (self.old ++ chars.now) }
     {

@@ -1,5 +1,7 @@
 -- How the body between two flags is read: numbers 1 to 5. Assumes nothing.
 use Rattle.std.specs.Prelude.{Bool, ◌||◌, List, ◌∷◌, ℕ, ◌+◌, ◌-◌, ◌*◌, eqb, ltb, length, take, drop, get_or, ◌≡◌, ◌≤◌, replicate, Option, Some, None, Result, Ok, Err}
+use Rattle.std.specs.Borrow.{Fml, MutBor, Array, u8}
+use Rattle.std.specs.Io.BufRead.{Rests}
 use Rattle.std.proofs.Math.Option.{none, some}
 use Rattle.std.proofs.lemmas.List.Edits.{sets}
 use Rattle.base.specs.Choice.{choose, within}
@@ -52,6 +54,15 @@ abbrev pub left_in : Result (ℕ × ℕ) LineFault → Option (List ℕ) → Lis
 left_in (Ok b) (Some xs) = sets (replicate 272 0) 0 xs
 left_in (Ok b) None = replicate 272 0
 left_in (Err e) u = replicate 272 0
+
+-- the same where the array's part is lent on
+abbrev pub left_behind : Result Body LineFault → Option (List ℕ) → List ℕ
+left_behind (Ok b) u = left_in (Ok (b.addr, length b.«data».now)) u
+left_behind (Err e) u = left_in (Err e) u
+
+-- the array that was lent holds xs when nothing borrows from it any more
+abbrev pub Leaves : MutBor (List ℕ) → List ℕ → Fml
+Leaves s xs = Rests (Array u8 272) s (λ new. new ≡ xs)
 
 abbrev pub answer_of : Result Body LineFault → Answer (ℕ × List ℕ)
 answer_of r = body_answer (shown r)

@@ -2,8 +2,9 @@
 #![tactic(auto)]
 
 ghost use Rattle.std.specs.Prelude.{◌≡◌, ◌≤◌, length, drop};
+ghost use Rattle.std.specs.Borrow.{sem};
 ghost use Rattle.stuffing.specs.Stuffing.{unstuff};
-ghost use Rattle.wire.specs.Body.{number_of, answer_of, shown, held_in, Within, Unstuffed, left_in, reserved_addr, fcs_of, checked_body, unstuffed_body, read_body, answer_to_body};
+ghost use Rattle.wire.specs.Body.{number_of, answer_of, shown, held_in, Within, Unstuffed, left_in, Leaves, left_behind, reserved_addr, fcs_of, checked_body, unstuffed_body, read_body, answer_to_body};
 
 use crc::{Fcs, crc_headed};
 use stuffing::unstuff_into;
@@ -110,15 +111,29 @@ pub fn read_into(body: &[u8], bytes: &mut [u8; 272]) -> Result<(u8, usize), Line
     found
 }
 
-// A body as it came from the line, with its application data in the lent array.
-#[tactic(auto)]
-pub fn read_body<'a>(body: &[u8], bytes: &'a mut [u8; 272]) -> Result<Body<'a>, LineFault>
-    ensures body { shown result ≡ read_body body.now }
-    ensures answer { answer_of result ≡ answer_to_body body.now }
+// What was found, with its part of the array lent on.
+fn lent_on<'a>(
+    bytes: &'a [u8; 272],
+    found: Result<(u8, usize), LineFault>,
+) -> Result<Body<'a>, LineFault>
+    requires { Within 272 found }
+    ensures body { shown result ≡ held_in found bytes.now }
+    ensures array { left_behind result ≡ left_in found }
 {
-    let (addr, len) = read_into(body, bytes)?;
+    let (addr, len) = found?;
     Ok(Body {
         addr,
         data: &bytes[..len],
     })
+}
+
+// A body as it came from the line, with its application data in the lent array. Once nothing borrows from it, the array holds what
+// `read_into` leaves: with a fault zeros alone.
+pub fn read_body<'a>(body: &[u8], bytes: &'a mut [u8; 272]) -> Result<Body<'a>, LineFault>
+    ensures body { shown result ≡ read_body body.now }
+    ensures answer { answer_of result ≡ answer_to_body body.now }
+    ensures* array { sem 𝓛 (Leaves bytes.entry (left_behind result (unstuff (drop 1 body.now)))) }
+{
+    let found = read_into(body, bytes);
+    lent_on(bytes, found)
 }

@@ -30,7 +30,6 @@ impl Answerer for Journey {
 
 // Prints the worst 1,000 cycles of the journey that the input has, and nothing else. An error of the input or the output ends the
 // work; of what is printed a beginning may then be written.
-#[tactic(auto, using(crate::proofs::Whole::all_printed, crate::proofs::Whole::all_begun))]
 pub fn run<R: Read, W: Write>(input: &mut R, output: &mut W) -> io::Result<()>
     ensures ok { OnOk result (Printed journey_text (R.remaining input.old) (R.remaining input.new)
         (W.contents output.old) (W.contents output.new)) }
